@@ -1,0 +1,91 @@
+-- Every way to cut a line into calls comes to the whole line, and there is one.
+use mathlib.Core.Path.{_≡_, refl, sym, _∙_, ap}
+use mathlib.Core.Logic.{dite}
+use mathlib.Core.Bool.{Bool, true, false}
+use mathlib.Core.List.{List, [], _∷_, _++_, append-nil, append-assoc}
+use Prim.Native.Nat.{ℕ, zero, suc, _+_, _*_, _<_, _≤_}
+use native.Mathlib.Decide.{decLe}
+use native.Mathlib.Omega.{arith}
+use lib.ListN.{length, take, drop, take-append-drop, length-append, length-take, length-drop}
+use lib.Seq.{drop-length, take-all}
+use Rattle.framing.specs.declared.hold.Hold.{Hold}
+use Rattle.framing.specs.declared.scan.Scanned.{Scanned}
+use Rattle.framing.specs.Hold.{held, holdOf}
+use Rattle.framing.specs.Scan.{Ending, waiting, packet, isPacket, Outcome, scan, scannedOf, Scans}
+use Rattle.framing.specs.Line.{Tally, nothingMore, counted, Calls, last, next, line}
+use Rattle.framing.proofs.Bytes.{held-holdOf}
+use Rattle.framing.proofs.Lines.{noted, counted-noted, scanned, all-taken}
+use Rattle.framing.proofs.Bounds.{least, call, taken-at-most}
+
+-- the piece as a call sees it, and the rest
+split : (piece more : List ℕ) → piece ++ more ≡ take 65535 piece ++ (drop 65535 piece ++ more)
+split piece more = ap (λ (l : List ℕ). l ++ more) (sym (take-append-drop 65535 piece)) ∙ append-assoc (take 65535 piece) (drop 65535 piece) more
+
+-- a line read by a call on a piece of it, and then whole
+pub by-call : (hold : Hold) (piece more : List ℕ) (r : Scanned) → Scans hold piece r
+    → line (held hold ++ (piece ++ more)) ≡ counted r (line (held (r .hold) ++ drop (r .taken) (piece ++ more)))
+unfolding scannedOf
+by-call hold piece more r e =
+    let o = scan (held hold) (take 65535 piece) in
+    let a = scanned (held hold) (take 65535 piece) (drop 65535 piece ++ more) in
+    let b : line (held hold ++ (piece ++ more)) ≡ noted o (line (o .hold ++ drop (o .taken) (piece ++ more))) = rw (split piece more) a in
+    let rest = drop (o .taken) (piece ++ more) in
+    b ∙ sym (counted-noted o (line (o .hold ++ rest))) ∙ ap (λ (h : List ℕ). counted (scannedOf o) (line (h ++ rest))) (sym (held-holdOf (o .hold)))
+    ∙ sym (ap (λ (x : Scanned). counted x (line (held (x .hold) ++ drop (x .taken) (piece ++ more)))) e)
+
+waiting-ending : (e : Ending) → isPacket e ≡ false → e ≡ waiting
+waiting-ending waiting p = refl
+waiting-ending (packet k d) p = let z : _≡_ {A = ℕ} 0 1 = cc in absurd (omega arith)
+
+-- a last call leaves nothing to read
+nothing-left : (hold : Hold) (bytes : List ℕ) (r : Scanned) → Scans hold bytes r → r .taken ≡ length bytes → r .found ≡ false
+    → line (held (r .hold) ++ drop (r .taken) (bytes ++ [])) ≡ nothingMore (r .hold)
+unfolding scannedOf
+nothing-left hold bytes r e t f =
+    let o = scan (held hold) (take 65535 bytes) in
+    let w : o .ending ≡ waiting = waiting-ending (o .ending) (sym (ap (λ (x : Scanned). x .found) e) ∙ f) in
+    let a = all-taken (held hold) (take 65535 bytes) w in
+    rw (t, append-nil, drop-length, append-nil, e, held-holdOf) (a .1)
+
+-- calls on the bytes from the hold, cut anywhere, come to the whole line
+pub whole-line : {hold : Hold} {bytes : List ℕ} {t : Tally} → Calls hold bytes t → t ≡ line (held hold ++ bytes)
+whole-line (last {hold = hold} {bytes = bytes} {r = r} e t f) =
+    ap (counted r) (sym (nothing-left hold bytes r e t f)) ∙ sym (by-call hold bytes [] r e) ∙ rw append-nil
+whole-line (next {hold = hold} piece more {r = r} e c) = ap (counted r) (whole-line c) ∙ sym (by-call hold piece more r e)
+
+-- there is such a way: a call on all there is, and calls on what it leaves
+module _ (hold : Hold) (bytes : List ℕ) where
+  abbrev outcome : Outcome
+  outcome = scan (held hold) (take 65535 bytes)
+
+  go-on : Calls (holdOf (outcome .hold)) (drop (outcome .taken) bytes) (line (held (holdOf (outcome .hold)) ++ drop (outcome .taken) bytes)) → Calls hold bytes (line (held hold ++ bytes))
+  unfolding scannedOf
+  go-on c =
+      let d : Calls (holdOf (outcome .hold)) (drop (outcome .taken) (bytes ++ [])) (line (held (holdOf (outcome .hold)) ++ drop (outcome .taken) (bytes ++ []))) = rw append-nil c in
+      let n = next {hold = hold} bytes [] {r = scannedOf outcome} refl d in
+      rw append-nil at (rw (← by-call hold bytes [] (scannedOf outcome) refl) at n)
+
+  ends-at : (f : ℕ) → length (held hold) + 2 * length bytes ≤ f → ((g : Hold) (more : List ℕ) → length (held g) + 2 * length more < f → Calls g more (line (held g ++ more)))
+      → (e : Ending) → outcome .ending ≡ e → Calls hold bytes (line (held hold ++ bytes))
+  unfolding scannedOf
+  ends-at f n ih waiting q =
+      let t = all-taken (held hold) (take 65535 bytes) q .0 in
+      let i = call (held hold) (take 65535 bytes) in
+      let k = rw q at (i .kept) in
+      dite (decLe (length bytes) 65535)
+      (λ p.
+      let all : outcome .taken ≡ length bytes = t ∙ rw (take-all 65535 bytes p) in
+      let c = last {hold = hold} {bytes = bytes} {r = scannedOf outcome} refl all (ap isPacket q) in
+      rw (whole-line c) at c)
+      (λ p. go-on (ih (holdOf (outcome .hold)) (drop (outcome .taken) bytes) (rw held-holdOf (omega (arith, length-drop (outcome .taken) bytes, length-take 65535 bytes)))))
+  ends-at f n ih (packet k d) q =
+      let i = call (held hold) (take 65535 bytes) in
+      let j = rw q at (i .kept) in
+      go-on (ih (holdOf (outcome .hold)) (drop (outcome .taken) bytes) (rw held-holdOf (omega (arith, length-drop (outcome .taken) bytes, taken-at-most (held hold) (take 65535 bytes), length-take 65535 bytes))))
+
+ends-in : (f : ℕ) (hold : Hold) (bytes : List ℕ) → length (held hold) + 2 * length bytes < f → Calls hold bytes (line (held hold ++ bytes))
+ends-in zero hold bytes n = absurd (omega arith)
+ends-in (suc f) hold bytes n = ends-at hold bytes f (omega arith) (λ g more m. ends-in f g more m) (outcome hold bytes .ending) refl
+
+pub ends : (hold : Hold) (bytes : List ℕ) → Calls hold bytes (line (held hold ++ bytes))
+ends hold bytes = ends-in (suc (length (held hold) + 2 * length bytes)) hold bytes (omega arith)

@@ -1,0 +1,9 @@
+pub mod Bytes
+pub mod Bounds
+pub mod Composing
+pub mod Cuts
+pub mod Judgements
+pub mod Lines
+pub mod Steps
+pub mod Theorems
+pub mod Turns

@@ -1,0 +1,76 @@
+use lib.ListN.{length-take}
+use Rattle.framing.specs.Judge.{checksumRight}
+use native.Mathlib.Omega.{arith}
+use borrow.Author.Needs.{needs}
+use Rattle.framing.proofs.judge.checksum_right.Statement.{statement}
+use Rattle.framing.proofs.judge.checksum_right.Tie as tie
+use Rattle.framing.proofs.judge.checksum_right.Reads as reads
+use Rattle.framing.proofs.judge.checksum_right.Lts as lts
+use Rattle.framing.proofs.fcs.checksum.Reads as checksum-reads
+use Rattle.lists.proofs.wide.Reads as wide-reads
+
+shared-slice-read-wide : tie.Need-shared-slice-read-wide
+shared-slice-read-wide c = search needs
+
+wide-requires : tie.Need-wide-requires
+wide-requires c κs = search needs
+
+add-end : tie.Need-add-end
+add-end c = search needs
+
+slice-aggregate-checksum : tie.Need-slice-aggregate-checksum
+slice-aggregate-checksum c = simp length-take (omega arith)
+
+checksum-requires : tie.Need-checksum-requires
+checksum-requires c κs = search needs
+
+cast-sum : tie.Need-cast-sum
+cast-sum c = search needs
+
+add-wide : tie.Need-add-wide
+add-wide c = search needs
+
+shared-slice-read-wide-2 : tie.Need-shared-slice-read-wide-2
+shared-slice-read-wide-2 c = search needs
+
+wide-requires-2 : tie.Need-wide-requires-2
+wide-requires-2 c κs = search needs
+
+add-wide-2 : tie.Need-add-wide-2
+add-wide-2 c = search needs
+
+shared-slice-read-wide-3 : tie.Need-shared-slice-read-wide-3
+shared-slice-read-wide-3 c = search needs
+
+wide-requires-3 : tie.Need-wide-requires-3
+wide-requires-3 c κs = search needs
+
+mul-result : tie.Need-mul-result
+mul-result c = search needs
+
+add-result : tie.Need-add-result
+add-result c = search needs
+
+returns : tie.Need-returns
+unfolding checksumRight
+returns c = cc
+
+pub checksum-right-spec : {M : Type 1} → statement M
+checksum-right-spec =
+    tie.close
+    (tie.spec
+    shared-slice-read-wide
+    wide-requires
+    add-end
+    slice-aggregate-checksum
+    checksum-requires
+    cast-sum
+    add-wide
+    shared-slice-read-wide-2
+    wide-requires-2
+    add-wide-2
+    shared-slice-read-wide-3
+    wide-requires-3
+    mul-result
+    add-result
+    returns)

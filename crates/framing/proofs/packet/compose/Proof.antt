@@ -1,0 +1,99 @@
+use lib.ListN.{length-set, length-take}
+use Rattle.framing.proofs.Composing.{wrong-buffer, too-long, composes-nothing, composes, written}
+use native.Mathlib.Omega.{arith}
+use borrow.Author.Needs.{needs}
+use Rattle.framing.proofs.packet.compose.Statement.{statement}
+use Rattle.framing.proofs.packet.compose.Tie as tie
+use Rattle.framing.proofs.packet.compose.Reads as reads
+use Rattle.framing.proofs.packet.compose.Lts as lts
+use Rattle.framing.proofs.fcs.checksum.Reads as checksum-reads
+use Rattle.lists.proofs.paste.Reads as paste-reads
+
+returns : tie.Need-returns
+returns c =
+    let a = c .before .before .before .args in
+    composes-nothing (a .out .now) (a .content .now) (a .kind) (wrong-buffer (a .out .now) (a .content .now) (c .if1 .taken))
+
+returns-2 : tie.Need-returns-2
+returns-2 c =
+    let a = c .before .before .before .before .args in
+    composes-nothing (a .out .now) (a .content .now) (a .kind) (too-long (a .out .now) (a .content .now) (omega arith))
+
+slice-write-out : tie.Need-slice-write-out
+slice-write-out c = search needs
+
+cast-out : tie.Need-cast-out
+cast-out c = search needs
+
+slice-write-out-2 : tie.Need-slice-write-out-2
+slice-write-out-2 c = search needs
+
+paste-requires : tie.Need-paste-requires
+paste-requires c κs = search needs
+
+add-checksum : tie.Need-add-checksum
+add-checksum c = search needs
+
+slice-reshare-prefix-checksum : tie.Need-slice-reshare-prefix-checksum
+slice-reshare-prefix-checksum c = omega (arith, simp length-set at (c .before .before .paste .kept .0))
+
+slice-aggregate-checksum : tie.Need-slice-aggregate-checksum
+slice-aggregate-checksum c = simp length-take (omega (arith, simp length-set at (c .before .before .before .paste .kept .0)))
+
+checksum-requires : tie.Need-checksum-requires
+checksum-requires c κs = search needs
+
+cast-out-2 : tie.Need-cast-out-2
+cast-out-2 c = search needs
+
+add-out : tie.Need-add-out
+add-out c = search needs
+
+slice-write-out-3 : tie.Need-slice-write-out-3
+slice-write-out-3 c = omega (arith, simp length-set at (c .before .before .before .before .paste .kept .0))
+
+cast-out-3 : tie.Need-cast-out-3
+cast-out-3 c = search needs
+
+add-out-2 : tie.Need-add-out-2
+add-out-2 c = search needs
+
+slice-write-out-4 : tie.Need-slice-write-out-4
+slice-write-out-4 c = simp length-set (omega (arith, simp length-set at (c .before .before .before .before .paste .kept .0)))
+
+add-result : tie.Need-add-result
+add-result c = search needs
+
+same-length : tie.Need-same-length
+same-length c = simp length-set (simp length-set at (c .before .before .before .before .paste .kept .0))
+
+returns-3 : tie.Need-returns-3
+returns-3 c =
+    let p = c .before .before .before .before in
+    let a = p .before .before .before .before .before .before .args in
+    composes (a .out .now) (a .content .now) (a .kind) _ (omega arith) (omega arith)
+    (written (a .out .now) (a .content .now) (a .kind) (c .checksum .result) (p .paste .last .0) (omega arith) (p .paste .ensures) (c .checksum .ensures))
+
+pub compose-spec : {M : Type 1} → statement M
+compose-spec =
+    tie.close
+    (tie.spec
+    returns
+    returns-2
+    slice-write-out
+    cast-out
+    slice-write-out-2
+    paste-requires
+    add-checksum
+    slice-reshare-prefix-checksum
+    slice-aggregate-checksum
+    checksum-requires
+    cast-out-2
+    add-out
+    slice-write-out-3
+    cast-out-3
+    add-out-2
+    slice-write-out-4
+    add-result
+    same-length
+    returns-3)

@@ -1,0 +1,19 @@
+use Rattle.framing.proofs.Bytes.{scanned-waiting}
+use native.Mathlib.Omega.{arith}
+use borrow.Author.Needs.{needs}
+use Rattle.framing.proofs.scan.waiting.Statement.{statement}
+use Rattle.framing.proofs.scan.waiting.Tie as tie
+use Rattle.framing.proofs.scan.waiting.Reads as reads
+use Rattle.framing.proofs.scan.waiting.Lts as lts
+use Rattle.framing.proofs.scan.kept.Reads as kept-reads
+
+kept-requires : tie.Need-kept-requires
+kept-requires c κs = search needs
+
+returns : tie.Need-returns
+returns c =
+    let a = c .before .before .args in
+    scanned-waiting (a .window .now) (a .taken) (a .dropped) (a .checked) (c .kept .result) (c .kept .ensures)
+
+pub waiting-spec : {M : Type 1} → statement M
+waiting-spec = tie.close (tie.spec kept-requires returns)

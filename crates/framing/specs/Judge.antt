@@ -1,0 +1,32 @@
+-- The judgement of the held bytes h at the oldest.
+use Prim.Native.Nat.{ℕ, _+_, _*_}
+use mathlib.Core.Path.{_≡_}
+use mathlib.Core.Bool.{Bool}
+use mathlib.Core.List.{List}
+use lib.ListN.{length, getD, take}
+use Rattle.lists.specs.Tests.{when_then_else_, _<?_, _=?_}
+use Rattle.framing.specs.declared.judge.Judgement.{Judgement}
+use Rattle.framing.specs.declared.judge.Judgement.the-variants.{Wait, LongLength, WrongChecksum, Packet}
+use Rattle.framing.specs.Fcs.{checksum}
+
+-- the n of "type, length n"
+abbrev pub lengthByte : List ℕ → ℕ
+lengthByte h = getD h 1 0
+
+-- the checksum "over type, length and data" stands behind them "with its low byte first"
+unfoldable pub checksumRight : List ℕ → Bool
+checksumRight h =
+    checksum (take (lengthByte h + 2) h) =? getD h (lengthByte h + 2) 0 + 256 * getD h (lengthByte h + 3) 0
+
+-- the five sentences of "Judgement at the oldest", in their order
+unfoldable pub judge : List ℕ → Judgement
+judge h =
+    when length h <? 2 then Wait
+    else when 22 <? lengthByte h then LongLength
+    else when length h <? lengthByte h + 4 then Wait
+    else when checksumRight h then Packet
+    else WrongChecksum
+
+-- what `judge` promises
+abbrev pub Judges : List ℕ → Judgement → Type 0
+Judges h r = r ≡ judge h

@@ -1,0 +1,6 @@
+pub mod Fcs
+pub mod Packet
+pub mod Hold
+pub mod Judge
+pub mod Scan
+pub mod Line

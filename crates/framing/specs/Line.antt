@@ -1,0 +1,66 @@
+-- Calls repeated until all is taken and the answer is waiting; and the same line read whole, without calls.
+use Prim.Native.Nat.{ℕ, zero, suc, _+_}
+use mathlib.Core.Path.{_≡_}
+use mathlib.Core.Bool.{false}
+use mathlib.Core.List.{List, [], _∷_, _++_}
+use lib.ListN.{length, getD, take, drop}
+use Rattle.lists.specs.Tests.{when_then_else_}
+use Rattle.framing.specs.declared.hold.Hold.{Hold}
+use Rattle.framing.specs.declared.judge.Judgement.{Judgement}
+use Rattle.framing.specs.declared.judge.Judgement.the-variants.{Wait, LongLength, WrongChecksum, Packet}
+use Rattle.framing.specs.declared.packet.Packet as packets
+use Rattle.framing.specs.declared.scan.Scanned.{Scanned}
+use Rattle.framing.specs.Packet.{packetOf}
+use Rattle.framing.specs.Hold.{holdOf}
+use Rattle.framing.specs.Judge.{lengthByte, judge}
+use Rattle.framing.specs.Scan.{Scans}
+
+-- what calls come to: their packets in order, the hold at the end, the sums of the bytes dropped and checked
+pub record Tally : Type 0 where
+  pub packets : List packets.Packet
+  pub hold : Hold
+  pub dropped : ℕ
+  pub checked : ℕ
+
+abbrev pub nothingMore : Hold → Tally
+nothingMore hold = record { packets = []; hold = hold; dropped = 0; checked = 0 }
+
+-- t, with these packets, d bytes dropped and c checked before it
+abbrev pub onto : List packets.Packet → ℕ → ℕ → Tally → Tally
+onto found d c t =
+    record { packets = found ++ t .packets; hold = t .hold; dropped = d + t .dropped; checked = c + t .checked }
+
+unfoldable pub packetsIn : Scanned → List packets.Packet
+packetsIn r = when r .found then r .packet ∷ [] else []
+
+abbrev pub counted : Scanned → Tally → Tally
+counted r t = onto (packetsIn r) (r .dropped) (r .checked) t
+
+-- Calls hold bytes t: the bytes, cut into pieces anywhere and given to calls that begin with the hold, come to t
+pub data Calls : Hold → List ℕ → Tally → Type 0 where
+  -- the last call: all is taken and the answer is waiting
+  last : {hold : Hold} {bytes : List ℕ} {r : Scanned} → Scans hold bytes r → r .taken ≡ length bytes → r .found ≡ false
+      → Calls hold bytes (counted r (nothingMore (r .hold)))
+  -- a call on a piece, and then calls on what it has not taken and what comes behind
+  next : {hold : Hold} (piece more : List ℕ) {r : Scanned} {t : Tally} → Scans hold piece r
+      → Calls (r .hold) (drop (r .taken) (piece ++ more)) t → Calls hold (piece ++ more) (counted r t)
+
+-- what becomes of the line w by the judgement at its oldest byte, where d is the tally of the line without that byte and
+-- p the tally of the line without the packet that it begins with
+unfoldable pub lineAt : Judgement → List ℕ → Tally → Tally → Tally
+lineAt Wait w d p = nothingMore (holdOf w)
+lineAt LongLength w d p = onto [] 1 0 d
+lineAt WrongChecksum w d p = onto [] 1 (lengthByte w + 2) d
+lineAt Packet w d p = onto (packetOf (getD w 0 0) (take (lengthByte w) (drop 2 w)) ∷ []) 0 (lengthByte w + 2) p
+
+-- the line w, whole, without its first k bytes
+unfoldable pub lineFrom : ℕ → List ℕ → Tally
+lineFrom k [] = nothingMore (holdOf [])
+lineFrom zero (b ∷ w) =
+    let d = lineFrom 0 w in
+    let p = lineFrom (lengthByte (b ∷ w) + 3) w in
+    lineAt (judge (b ∷ w)) (b ∷ w) d p
+lineFrom (suc k) (b ∷ w) = lineFrom k w
+
+abbrev pub line : List ℕ → Tally
+line w = lineFrom 0 w

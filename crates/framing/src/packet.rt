@@ -1,0 +1,31 @@
+// A packet as values, and composed into bytes.
+ghost use mathlib.Core.Path.{_≡_};
+ghost use Rattle.framing.specs.Packet.{Composes};
+
+// Type, length and data; zeros behind the data.
+pub struct Packet {
+    pub kind: u8,
+    pub length: usize,
+    pub content: [u8; 22],
+}
+
+// The packet of a type and data bytes at the front of a lent buffer of 26, and its length. A buffer of another size, or
+// more than 22 data bytes: nothing is written, and the length is 0.
+pub fn compose(out: &mut [u8], kind: u8, content: &[u8]) -> usize
+    ensures { λ r. ⌜ Composes (now (out .entry)) kind (now (content .entry)) r (now (out .exit)) ⌝ }
+{
+    if out.len() != 26 {
+        return 0;
+    }
+    let n = content.len();
+    if 22 < n {
+        return 0;
+    }
+    out[0] = kind;
+    out[1] = n as u8;
+    lists::paste(out, 2, content);
+    let sum = crate::fcs::checksum(&out[..n + 2]);
+    out[n + 2] = (sum % 256) as u8;
+    out[n + 3] = (sum / 256) as u8;
+    n + 4
+}
