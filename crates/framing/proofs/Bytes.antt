@@ -9,7 +9,7 @@ use native.Mathlib.Omega.{arith}
 use lib.ListN.{length, take, drop, set, getD, replicate, length-append, length-replicate, length-take, length-drop}
 use lib.Seq.{paste, take-suc-set, length-take-le, length-paste-head, take-append-seam, take-at, take-all, getD-take, getD-drop, getD-append-add, take-take}
 use Rattle.lists.specs.Runs.{front, pasted}
-use Rattle.lists.proofs.Laws.{part, pasted-front, paste-turn}
+use Rattle.lists.proofs.Laws.{part, pasted-front, paste-turn, all-behind}
 use Rattle.framing.specs.declared.hold.Hold.{Hold}
 use Rattle.framing.specs.declared.packet.Packet as packets
 use Rattle.framing.specs.declared.scan.Scanned.{Scanned}
@@ -45,10 +45,6 @@ pub forwarded : (w : List ℕ) (i : ℕ) → i + 1 ≡ length w → take i (past
 forwarded w i h =
     let l : length (drop 1 w) ≡ i = length-drop 1 w ∙ omega arith in
     rw (take-all i (drop 1 w) (omega arith)) (take-at (drop 1 w) (drop (0 + i) w) i l)
-
--- what is behind place n is all of it
-pub all-behind : (n : ℕ) (w : List ℕ) → take (length w - n) (drop n w) ≡ drop n w
-all-behind n w = take-all (length w - n) (drop n w) (omega (arith, length-drop n w))
 
 -- what the code makes of a call that ends waiting
 pub scanned-waiting : (w : List ℕ) (t d k : ℕ) (g : Hold) → g ≡ holdOf w

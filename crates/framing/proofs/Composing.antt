@@ -11,7 +11,7 @@ use Rattle.lists.specs.Runs.{front, pasted}
 use Rattle.lists.proofs.Laws.{when-true, when-false, front-more, front-run}
 use Rattle.framing.specs.Fcs.{checksum}
 use Rattle.framing.specs.declared.judge.Judgement.the-variants.{Packet}
-use Rattle.framing.specs.Packet.{covered, lowFirst, packetBytes, packetOf, composable, Composes}
+use Rattle.framing.specs.Packet.{covered, lowFirst, packetBytes, packetOf, composable, composedLength, composed, Composes}
 use Rattle.framing.specs.Judge.{checksumRight, judge}
 use Rattle.framing.specs.Line.{onto, line}
 use Rattle.framing.proofs.Judgements.{shown, whole}
@@ -29,6 +29,7 @@ module _ (out content : List ℕ) where
 
   module _ (kind : ℕ) where
     pub composes-nothing : composable out content ≡ false → Composes out kind content 0 out
+    unfolding composedLength composed
     composes-nothing e = (sym (when-false _ _ _ e), sym (when-false _ _ _ e))
 
     -- the two stores, the run, the checksum of what stands there so far, the two last stores: the packet at the front
@@ -50,6 +51,7 @@ module _ (out content : List ℕ) where
 
     pub composes : (out′ : List ℕ) → length out ≡ 26 → length content ≤ 22 → out′ ≡ front (packetBytes kind content) out
         → Composes out kind content (length content + 4) out′
+    unfolding composedLength composed
     composes out′ h l e = let t = fitting h l in (sym (when-true _ _ _ t), e ∙ sym (when-true _ _ _ t))
 
 -- the bytes of a packet are judged a packet, whatever stands behind them

@@ -8,7 +8,7 @@ use native.Mathlib.Omega.{arith}
 use lib.ListN.{length, take, drop, set, getD, replicate, length-take, length-set}
 use lib.Seq.{length-take-le, take-take, take-all, getD-take, take-at}
 use Rattle.lists.specs.Runs.{pasted, front}
-use Rattle.lists.proofs.Laws.{part, length-pasted, take-min}
+use Rattle.lists.proofs.Laws.{part, length-pasted, take-limited}
 use Rattle.framing.specs.declared.judge.Judgement.the-variants.{Wait, LongLength, WrongChecksum, Packet}
 use Rattle.framing.specs.Judge.{lengthByte, judge}
 use Rattle.framing.specs.Scan.{still, after, found, scan}
@@ -42,7 +42,7 @@ window-held b w n c m l e =
     let a : length (take c b) ≡ c = length-take-le c b (omega arith) in
     let f : w ≡ front (take c b) (replicate 26 0) = e ∙ padding 26 (take c b) (omega arith) in
     let g : take c w ≡ take c b = rw f (take-at (take c b) (drop (length (take c b)) (replicate 26 0)) c a) in
-    g ∙ ap (λ (x : ℕ). take x b) m ∙ take-min n 25 b ∙ ap (take n) (take-all 25 b (omega arith))
+    g ∙ take-limited c n 25 b m (omega arith)
 
 module _ (h p w : List ℕ) (c t d k : ℕ) (v : Turn h p w c t d k) where
   count : length (take c w) ≡ c

@@ -32,8 +32,14 @@ packetOf kind content = record { kind = kind; length = length content; content =
 abbrev pub composable : List ℕ → List ℕ → Bool
 composable out content = (length out =? 26) && (length content ≤? 22)
 
+-- the length that is written, 0 where nothing is
+unfoldable pub composedLength : List ℕ → List ℕ → ℕ
+composedLength out content = when composable out content then length content + 4 else 0
+
+-- the buffer afterwards
+unfoldable pub composed : List ℕ → ℕ → List ℕ → List ℕ
+composed out kind content = when composable out content then front (packetBytes kind content) out else out
+
 -- what `compose` promises of the length that it returns and of the buffer
 abbrev pub Composes : List ℕ → ℕ → List ℕ → ℕ → List ℕ → Type 0
-Composes out kind content r out′ =
-    (r ≡ (when composable out content then length content + 4 else 0))
-    × (out′ ≡ (when composable out content then front (packetBytes kind content) out else out))
+Composes out kind content r out′ = (r ≡ composedLength out content) × (out′ ≡ composed out kind content)

@@ -1,0 +1,58 @@
+use Prim.Native.Nat.{ℕ}
+use mathlib.Core.Path.{_≡_, _∙_, ap}
+use lib.ListN.{length, length-take}
+use borrow.Author.Needs.{length-unmapped}
+use Rattle.lists.proofs.Laws.{take-limited}
+use Rattle.carry.specs.Carry.{carried}
+use native.Mathlib.Omega.{arith}
+use borrow.Author.Needs.{needs}
+use Rattle.carry.proofs.carry.carry_out.Statement.{statement}
+use Rattle.carry.proofs.carry.carry_out.Tie as tie
+use Rattle.carry.proofs.carry.carry_out.Reads as reads
+use Rattle.carry.proofs.carry.carry_out.Lts as lts
+use Rattle.carry.proofs.effect.effect_of.Reads as effect-of-reads
+use Rattle.carry.proofs.reply.reply_to.Reads as reply-to-reads
+use Rattle.lists.proofs.at_most.Reads as at-most-reads
+
+given : (s : tie.Start) → length (s .args .p .content) ≡ 22
+given s = length-unmapped ℕ (s .args .p .content) 22 (s .good .1 .0 .1 .1 .1 .1 .0 .1 .0 .1)
+
+at-most-requires : tie.Need-at-most-requires
+at-most-requires c κs = search needs
+
+array-share-prefix-bytes : tie.Need-array-share-prefix-bytes
+array-share-prefix-bytes c = omega (arith, given (c .before .before .before), c .at-most .ensures)
+
+slice-aggregate-reply-to : tie.Need-slice-aggregate-reply-to
+slice-aggregate-reply-to c = simp length-take (omega (arith, given (c .before .before .before .before), c .before .at-most .ensures))
+
+reply-to-requires : tie.Need-reply-to-requires
+reply-to-requires c κs = (omega arith, simp length-take (omega (arith, c .before .at-most .ensures)))
+
+array-share-prefix-bytes-2 : tie.Need-array-share-prefix-bytes-2
+array-share-prefix-bytes-2 c = omega (arith, given (c .before .before .before .before .before), c .before .before .at-most .ensures)
+
+slice-aggregate-effect-of : tie.Need-slice-aggregate-effect-of
+slice-aggregate-effect-of c = simp length-take (omega (arith, given (c .before .before .before .before .before .before), c .before .before .before .at-most .ensures))
+
+effect-of-requires : tie.Need-effect-of-requires
+effect-of-requires c κs = search needs
+
+returns : tie.Need-returns
+unfolding carried
+returns c =
+    let p = c .before .before .before .before .before .before .before .args .p in
+    rw (c .effect-of .ensures, c .before .before .reply-to .ensures, take-limited _ (p .length) 22 (p .content) (c .before .before .before .before .at-most .ensures) (omega (arith, given (c .before .before .before .before .before .before .before))))
+
+pub carry-out-spec : {M : Type 1} → statement M
+carry-out-spec =
+    tie.close
+    (tie.spec
+    at-most-requires
+    array-share-prefix-bytes
+    slice-aggregate-reply-to
+    reply-to-requires
+    array-share-prefix-bytes-2
+    slice-aggregate-effect-of
+    effect-of-requires
+    returns)

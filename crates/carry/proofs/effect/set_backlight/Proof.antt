@@ -1,0 +1,16 @@
+use native.Mathlib.Omega.{arith}
+use borrow.Author.Needs.{needs}
+use Rattle.carry.proofs.effect.set_backlight.Statement.{statement}
+use Rattle.carry.proofs.effect.set_backlight.Tie as tie
+use Rattle.carry.proofs.effect.set_backlight.Reads as reads
+use Rattle.carry.proofs.effect.set_backlight.Lts as lts
+use Rattle.lists.proofs.at.Reads as at-reads
+
+at-requires : tie.Need-at-requires
+at-requires c κs = search needs
+
+returns : tie.Need-returns
+returns c = rw (c .at .ensures)
+
+pub set-backlight-spec : {M : Type 1} → statement M
+set-backlight-spec = tie.close (tie.spec at-requires returns)

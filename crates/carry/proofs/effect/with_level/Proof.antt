@@ -1,0 +1,20 @@
+use mathlib.Core.Path.{sym}
+use lib.Seq.{set-out}
+use native.Mathlib.Omega.{arith}
+use borrow.Author.Needs.{needs}
+use Rattle.carry.proofs.effect.with_level.Statement.{statement}
+use Rattle.carry.proofs.effect.with_level.Tie as tie
+use Rattle.carry.proofs.effect.with_level.Reads as reads
+use Rattle.carry.proofs.effect.with_level.Lts as lts
+
+array-write-r : tie.Need-array-write-r
+array-write-r c = search needs
+
+returns : tie.Need-returns
+returns c = search needs
+
+returns-2 : tie.Need-returns-2
+returns-2 c = sym (set-out (c .before .args .levels) (c .before .args .pin) (c .before .args .level) (omega (arith, c .before .good .0 .1 .0 .1)))
+
+pub with-level-spec : {M : Type 1} → statement M
+with-level-spec = tie.close (tie.spec array-write-r returns returns-2)

@@ -1,0 +1,26 @@
+use Prim.Native.Nat.{ℕ}
+use mathlib.Core.Path.{_∙_, ap}
+use mathlib.Core.List.{List}
+use lib.ListN.{length}
+use Rattle.framing.proofs.Bytes.{padding}
+use native.Mathlib.Omega.{arith}
+use borrow.Author.Needs.{needs}
+use Rattle.carry.proofs.reply.packet_of.Statement.{statement}
+use Rattle.carry.proofs.reply.packet_of.Tie as tie
+use Rattle.carry.proofs.reply.packet_of.Reads as reads
+use Rattle.carry.proofs.reply.packet_of.Lts as lts
+use Rattle.lists.proofs.paste.Reads as paste-reads
+
+slice-aggregate-paste : tie.Need-slice-aggregate-paste
+slice-aggregate-paste c = search needs
+
+paste-requires : tie.Need-paste-requires
+paste-requires c κs = search needs
+
+returns : tie.Need-returns
+returns c =
+    let a = c .before .before .before .before .args in
+    ap (λ (b : List ℕ). record { kind = a .kind; length = length (a .content .now); content = b }) (c .before .paste .ensures ∙ padding 22 (a .content .now) (omega arith))
+
+pub packet-of-spec : {M : Type 1} → statement M
+packet-of-spec = tie.close (tie.spec slice-aggregate-paste paste-requires returns)

@@ -1,0 +1,89 @@
+use Prim.Native.Nat.{ℕ, _≤_, _-_}
+use mathlib.Core.Path.{_≡_, refl, sym, _∙_, ap}
+use lib.ListN.{length, replicate}
+use Rattle.lists.specs.Runs.{front}
+use Rattle.lists.proofs.Laws.{whole-front}
+use Rattle.panel.specs.Glyphs.{flatFirst, flatOf}
+use Rattle.panel.proofs.Flat.{flat-turn, length-flat}
+use native.Mathlib.Omega.{arith}
+use borrow.Author.Needs.{needs}
+use Rattle.panel.proofs.glyphs.flattened.Statement.{statement}
+use Rattle.panel.proofs.glyphs.flattened.Tie as tie
+use Rattle.panel.proofs.glyphs.flattened.Reads as reads
+use Rattle.panel.proofs.glyphs.flattened.Lts as lts
+use Rattle.lists.proofs.paste.Reads as paste-reads
+use Rattle.panel.proofs.glyphs.rows_of.Reads as rows-of-reads
+
+abbrev Inv-loop : tie.InvT-loop
+Inv-loop glyphs flat₀ g₀ flat g = (g ≤ 8) × (flat ≡ front (flatFirst g glyphs) (replicate 64 0)) × (length flat ≡ 64)
+
+abbrev μ-loop : tie.MeasureT-loop
+μ-loop glyphs flat₀ g₀ flat g = 8 - g
+
+loop-holds : tie.Need-loop-holds Inv-loop μ-loop
+unfolding flatFirst
+loop-holds c = search needs
+
+mul-glyph : tie.Need-mul-glyph Inv-loop μ-loop
+mul-glyph c = search needs
+
+array-copy-out-glyph : tie.Need-array-copy-out-glyph Inv-loop μ-loop
+array-copy-out-glyph c = search needs
+
+rows-of-requires : tie.Need-rows-of-requires Inv-loop μ-loop
+rows-of-requires c κs = search needs
+
+slice-aggregate-paste : tie.Need-slice-aggregate-paste Inv-loop μ-loop
+slice-aggregate-paste c = sym (c .before .before .before .before .loop .inv .2)
+
+mul-paste : tie.Need-mul-paste Inv-loop μ-loop
+mul-paste c = search needs
+
+slice-aggregate-paste-2 : tie.Need-slice-aggregate-paste-2 Inv-loop μ-loop
+slice-aggregate-paste-2 c = search needs
+
+paste-requires : tie.Need-paste-requires Inv-loop μ-loop
+paste-requires c κs = search needs
+
+add-g : tie.Need-add-g Inv-loop μ-loop
+add-g c = search needs
+
+loop-less : tie.Need-loop-less Inv-loop μ-loop
+loop-less c = search needs
+
+loop-again : tie.Need-loop-again Inv-loop μ-loop
+loop-again c =
+    let l = c .before .before .before .before .before .before .before .loop in
+    let gs = c .before .before .before .before .before .before .before .before .args .t1 in
+    let p = c .before .paste in (
+      search needs,
+      p .ensures ∙ rw (l .inv .1, c .before .before .before .before .rows-of .ensures) (flat-turn (l .g) gs (replicate 64 0) (omega arith)),
+      p .kept .0 ∙ l .inv .2,
+    )
+
+returns : tie.Need-returns Inv-loop μ-loop
+unfolding flatOf
+returns c =
+    let l = c .before .loop in
+    let gs = c .before .before .args .t1 in
+    let e : l .g ≡ 8 = omega arith in
+    l .inv .1 ∙ rw e (whole-front (flatFirst 8 gs) (replicate 64 0) (length-flat 8 gs))
+
+pub flattened-spec : {M : Type 1} → statement M
+flattened-spec =
+    tie.close
+    (tie.spec
+    Inv-loop
+    μ-loop
+    loop-holds
+    mul-glyph
+    array-copy-out-glyph
+    rows-of-requires
+    slice-aggregate-paste
+    mul-paste
+    slice-aggregate-paste-2
+    paste-requires
+    add-g
+    loop-less
+    loop-again
+    returns)

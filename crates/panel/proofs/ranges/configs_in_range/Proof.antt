@@ -1,0 +1,61 @@
+use Prim.Native.Nat.{_≤_, _-_}
+use mathlib.Core.Path.{_≡_, refl, sym, _∙_}
+use mathlib.Core.Bool.{_&&_}
+use lib.ListN.{length, drop}
+use Rattle.verdict.specs.Table.{configAllowed}
+use Rattle.lists.proofs.Laws.{all-turn, all-ended}
+use Rattle.panel.specs.Ranges.{configsInRange}
+use native.Mathlib.Omega.{arith}
+use borrow.Author.Needs.{needs}
+use Rattle.panel.proofs.ranges.configs_in_range.Statement.{statement}
+use Rattle.panel.proofs.ranges.configs_in_range.Tie as tie
+use Rattle.panel.proofs.ranges.configs_in_range.Reads as reads
+use Rattle.panel.proofs.ranges.configs_in_range.Lts as lts
+use Rattle.verdict.proofs.table.config_allowed.Reads as config-allowed-reads
+
+abbrev Inv-loop : tie.InvT-loop
+Inv-loop configs ok₀ i₀ ok i = (i ≤ length configs) × (configsInRange configs ≡ ok && configsInRange (drop i configs))
+
+abbrev μ-loop : tie.MeasureT-loop
+μ-loop configs ok₀ i₀ ok i = length configs - i
+
+loop-holds : tie.Need-loop-holds Inv-loop μ-loop
+loop-holds c = search needs
+
+shared-slice-read-config-allowed : tie.Need-shared-slice-read-config-allowed Inv-loop μ-loop
+shared-slice-read-config-allowed c = search needs
+
+config-allowed-requires : tie.Need-config-allowed-requires Inv-loop μ-loop
+config-allowed-requires c κs = search needs
+
+add-i : tie.Need-add-i Inv-loop μ-loop
+add-i c = search needs
+
+loop-less : tie.Need-loop-less Inv-loop μ-loop
+loop-less c = search needs
+
+loop-again : tie.Need-loop-again Inv-loop μ-loop
+loop-again c =
+    let l = c .before .before .before .loop in
+    let a = c .before .before .before .before .before .args in
+    (search needs, l .inv .1 ∙ all-turn configAllowed (a .configs .now) (l .i) (l .ok) (c .before .before .loop-test .taken) ∙ rw (c .config-allowed .ensures))
+
+returns : tie.Need-returns Inv-loop μ-loop
+returns c =
+    let l = c .before .loop in
+    let a = c .before .before .before .args in
+    sym (l .inv .1 ∙ all-ended configAllowed (a .configs .now) (l .i) (l .ok) (c .loop-test .left))
+
+pub configs-in-range-spec : {M : Type 1} → statement M
+configs-in-range-spec =
+    tie.close
+    (tie.spec
+    Inv-loop
+    μ-loop
+    loop-holds
+    shared-slice-read-config-allowed
+    config-allowed-requires
+    add-i
+    loop-less
+    loop-again
+    returns)

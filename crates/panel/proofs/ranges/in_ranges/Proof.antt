@@ -1,0 +1,31 @@
+use Rattle.panel.specs.Ranges.{inRanges}
+use native.Mathlib.Omega.{arith}
+use borrow.Author.Needs.{needs}
+use Rattle.panel.proofs.ranges.in_ranges.Statement.{statement}
+use Rattle.panel.proofs.ranges.in_ranges.Tie as tie
+use Rattle.panel.proofs.ranges.in_ranges.Reads as reads
+use Rattle.panel.proofs.ranges.in_ranges.Lts as lts
+use Rattle.panel.proofs.ranges.keys_in_range.Reads as keys-in-range-reads
+use Rattle.panel.proofs.ranges.settings_in_range.Reads as settings-in-range-reads
+
+settings-in-range-requires : tie.Need-settings-in-range-requires
+settings-in-range-requires c κs = search needs
+
+settings-in-range-requires-2 : tie.Need-settings-in-range-requires-2
+settings-in-range-requires-2 c κs = search needs
+
+keys-in-range-requires : tie.Need-keys-in-range-requires
+keys-in-range-requires c κs = search needs
+
+returns : tie.Need-returns
+unfolding inRanges
+returns c = cc
+
+pub in-ranges-spec : {M : Type 1} → statement M
+in-ranges-spec =
+    tie.close
+    (tie.spec
+    settings-in-range-requires
+    settings-in-range-requires-2
+    keys-in-range-requires
+    returns)

@@ -1,0 +1,15 @@
+use mathlib.Core.Path.{refl}
+use Rattle.panel.specs.Ranges.{numbersInRange}
+use native.Mathlib.Omega.{arith}
+use borrow.Author.Needs.{needs}
+use Rattle.panel.proofs.ranges.numbers_in_range.Statement.{statement}
+use Rattle.panel.proofs.ranges.numbers_in_range.Tie as tie
+use Rattle.panel.proofs.ranges.numbers_in_range.Reads as reads
+use Rattle.panel.proofs.ranges.numbers_in_range.Lts as lts
+
+returns : tie.Need-returns
+unfolding numbersInRange
+returns c = refl
+
+pub numbers-in-range-spec : {M : Type 1} → statement M
+numbers-in-range-spec = tie.close (tie.spec returns)

@@ -1,0 +1,15 @@
+use mathlib.Core.Path.{refl}
+use Rattle.panel.specs.State.{factorySettings}
+use native.Mathlib.Omega.{arith}
+use borrow.Author.Needs.{needs}
+use Rattle.panel.proofs.state.factory.Statement.{statement}
+use Rattle.panel.proofs.state.factory.Tie as tie
+use Rattle.panel.proofs.state.factory.Reads as reads
+use Rattle.panel.proofs.state.factory.Lts as lts
+
+returns : tie.Need-returns
+unfolding factorySettings
+returns c = refl
+
+pub factory-spec : {M : Type 1} → statement M
+factory-spec = tie.close (tie.spec returns)

@@ -1,0 +1,22 @@
+use Rattle.panel.specs.State.{poweredOn}
+use native.Mathlib.Omega.{arith}
+use borrow.Author.Needs.{needs}
+use Rattle.panel.proofs.state.powered_on.Statement.{statement}
+use Rattle.panel.proofs.state.powered_on.Tie as tie
+use Rattle.panel.proofs.state.powered_on.Reads as reads
+use Rattle.panel.proofs.state.powered_on.Lts as lts
+use Rattle.framing.proofs.hold.empty.Reads as empty-reads
+use Rattle.panel.proofs.state.factory.Reads as factory-reads
+
+factory-requires : tie.Need-factory-requires
+factory-requires c κs = search needs
+
+empty-requires : tie.Need-empty-requires
+empty-requires c κs = search needs
+
+returns : tie.Need-returns
+unfolding poweredOn
+returns c = rw (c .before .factory .ensures, c .empty .ensures)
+
+pub powered-on-spec : {M : Type 1} → statement M
+powered-on-spec = tie.close (tie.spec factory-requires empty-requires returns)

@@ -1,0 +1,78 @@
+// The eight special glyphs: an array of eight-byte arrays while they are set or drawn, flat in the state.
+ghost use mathlib.Core.Path.{_≡_};
+ghost use Rattle.panel.specs.Glyphs.{eightFrom, Reads8, Nests, Flattens, Sets};
+
+// The eight bytes from an index on, zeros past the end.
+pub fn eight(bytes: &[u8], from: u16) -> [u8; 8]
+    ensures { λ r. ⌜ Reads8 (now (bytes .entry)) from r ⌝ }
+{
+    let k = from as usize;
+    [
+        lists::at(bytes, k),
+        lists::at(bytes, k + 1),
+        lists::at(bytes, k + 2),
+        lists::at(bytes, k + 3),
+        lists::at(bytes, k + 4),
+        lists::at(bytes, k + 5),
+        lists::at(bytes, k + 6),
+        lists::at(bytes, k + 7),
+    ]
+}
+
+// The glyphs as eight arrays of eight rows.
+pub fn nested(flat: [u8; 64]) -> [[u8; 8]; 8]
+    ensures { λ r. ⌜ Nests flat r ⌝ }
+{
+    [
+        eight(&flat, 0),
+        eight(&flat, 8),
+        eight(&flat, 16),
+        eight(&flat, 24),
+        eight(&flat, 32),
+        eight(&flat, 40),
+        eight(&flat, 48),
+        eight(&flat, 56),
+    ]
+}
+
+fn rows_of(glyph: [u8; 8]) -> [u8; 8]
+    ensures { λ r. ⌜ r ≡ eightFrom glyph 0 ⌝ }
+{
+    [
+        glyph[0],
+        glyph[1],
+        glyph[2],
+        glyph[3],
+        glyph[4],
+        glyph[5],
+        glyph[6],
+        glyph[7],
+    ]
+}
+
+// The glyphs one behind the other.
+pub fn flattened(glyphs: [[u8; 8]; 8]) -> [u8; 64]
+    ensures { λ r. ⌜ Flattens glyphs r ⌝ }
+{
+    let mut flat = [0u8; 64];
+    let mut g: usize = 0;
+    while g < 8 {
+        let glyph = glyphs[g];
+        let rows = rows_of(glyph);
+        lists::paste(&mut flat, 8 * g, &rows);
+        g += 1;
+    }
+    flat
+}
+
+// The glyphs with one of them set; where there is none of that number, as they are.
+pub fn set(glyphs: [[u8; 8]; 8], number: u8, rows: [u8; 8]) -> [[u8; 8]; 8]
+    ensures { λ r. ⌜ Sets glyphs number rows r ⌝ }
+{
+    let n = number as usize;
+    let mut g = glyphs;
+    if n < 8 {
+        g[n] = rows;
+    }
+    g
+}

@@ -1,0 +1,32 @@
+use borrow.Author.Needs.{needs}
+use borrow.Author.Tests.{eq-eqb, ne-eqb}
+use Rattle.verdict.specs.Verdict.{isReboot}
+use Rattle.verdict.proofs.verdict.is_reboot.Statement.{statement}
+use Rattle.verdict.proofs.verdict.is_reboot.Tie as tie
+
+returns : tie.Need-returns
+unfolding isReboot
+returns c = rw (ne-eqb _ _ (c .if1 .taken))
+
+shared-slice-read-result : tie.Need-shared-slice-read-result
+shared-slice-read-result c = search needs
+
+shared-slice-read-result-2 : tie.Need-shared-slice-read-result-2
+shared-slice-read-result-2 c = search needs
+
+shared-slice-read-result-3 : tie.Need-shared-slice-read-result-3
+shared-slice-read-result-3 c = search needs
+
+returns-2 : tie.Need-returns-2
+unfolding isReboot
+returns-2 c = rw (eq-eqb _ _ (c .before .before .before .if1 .left))
+
+pub is-reboot-spec : {M : Type 1} → statement M
+is-reboot-spec =
+    tie.close
+    (tie.spec
+    returns
+    shared-slice-read-result
+    shared-slice-read-result-2
+    shared-slice-read-result-3
+    returns-2)
