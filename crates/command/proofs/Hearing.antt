@@ -1,0 +1,26 @@
+-- A piece heard, with and without a packet in it.
+use Prim.Native.Nat.{ℕ}
+use mathlib.Core.Path.{_≡_, sym, _∙_, ap}
+use mathlib.Core.Bool.{true, false}
+use mathlib.Core.List.{List}
+use Rattle.lists.proofs.Laws.{when-true, when-false}
+use Rattle.framing.specs.declared.scan.Scanned.{Scanned}
+use Rattle.panel.specs.declared.state.Panel.{Panel}
+use Rattle.command.specs.declared.answer.Answer.the-variants.{Waiting}
+use Rattle.command.specs.declared.step.Stepped.{Stepped}
+use Rattle.command.specs.Step.{stepOf}
+use Rattle.command.specs.Hear.{writtenLength, written, saidOf, heardBy, replyBy}
+
+module _ (p : Panel) (s : Scanned) (out : List ℕ) where
+  pub nothing-heard : s .found ≡ false → (saidOf p s (p .body) Waiting 0 ≡ heardBy p s out) × (out ≡ replyBy p s out)
+  unfolding heardBy replyBy
+  nothing-heard f = (sym (when-false _ _ _ f), sym (when-false _ _ _ f))
+
+  pub packet-heard : (t : Stepped) (n : ℕ) (out′ : List ℕ) → s .found ≡ true → t ≡ stepOf (p .body) (s .packet) → n ≡ writtenLength (t .replies) (t .reply) out
+      → out′ ≡ written (t .replies) (t .reply) out
+      → (saidOf p s (t .body) (t .answer) n ≡ heardBy p s out) × (out′ ≡ replyBy p s out)
+  unfolding heardBy replyBy
+  packet-heard t n out′ f e m o = (
+    rw (m, e) (sym (when-true _ _ _ f)),
+    o ∙ rw e (sym (when-true _ _ _ f)),
+  )

@@ -1,0 +1,59 @@
+-- A call's part on the line: what it hears and what it replies.
+use Prim.Native.Nat.{ℕ}
+use mathlib.Core.Path.{_≡_}
+use mathlib.Core.Bool.{Bool, true, false}
+use mathlib.Core.List.{List}
+use lib.ListN.{take}
+use Rattle.lists.specs.Tests.{when_then_else_}
+use Rattle.framing.specs.declared.packet.Packet.{Packet}
+use Rattle.framing.specs.declared.scan.Scanned.{Scanned}
+use Rattle.framing.specs.declared.hold.Hold.{Hold}
+use Rattle.framing.specs.Packet.{composedLength, composed}
+use Rattle.framing.specs.Hold.{held}
+use Rattle.framing.specs.Scan.{scan, scannedOf}
+use Rattle.panel.specs.declared.state.Body.{Body}
+use Rattle.panel.specs.declared.state.Panel.{Panel}
+use Rattle.command.specs.declared.answer.Answer.{Answer}
+use Rattle.command.specs.declared.answer.Answer.the-variants.{Waiting}
+use Rattle.command.specs.declared.answer.Said.{Said}
+use Rattle.command.specs.declared.step.Stepped.{Stepped}
+use Rattle.carry.specs.Carry.{contentOf}
+use Rattle.command.specs.Step.{stepOf}
+
+-- the line, heard by the panel's hold
+abbrev pub scannedBy : Panel → List ℕ → Scanned
+scannedBy p piece = scannedOf (scan (held (p .hold)) (take 65535 piece))
+
+-- the reply's length, and the buffer with the reply at its front
+unfoldable pub writtenLength : Bool → Packet → List ℕ → ℕ
+writtenLength replies reply out = when replies then composedLength out (contentOf reply) else 0
+
+unfoldable pub written : Bool → Packet → List ℕ → List ℕ
+written replies reply out = when replies then composed out (reply .kind) (contentOf reply) else out
+
+abbrev pub saidOf : Panel → Scanned → Body → Answer → ℕ → Said
+saidOf p s body answer reply =
+    record {
+      panel = record { hold = s .hold; body = body; unfiled = p .unfiled };
+      answer = answer;
+      taken = s .taken;
+      dropped = s .dropped;
+      checked = s .checked;
+      reply = reply;
+      listed = 0;
+    }
+
+-- 1: "held bytes only"; else by the packet found
+unfoldable pub heardBy : Panel → Scanned → List ℕ → Said
+heardBy p s out =
+    when s .found then (
+    let t = stepOf (p .body) (s .packet) in saidOf p s (t .body) (t .answer) (writtenLength (t .replies) (t .reply) out)
+    ) else saidOf p s (p .body) Waiting 0
+
+unfoldable pub replyBy : Panel → Scanned → List ℕ → List ℕ
+replyBy p s out =
+    when s .found then (let t = stepOf (p .body) (s .packet) in written (t .replies) (t .reply) out) else out
+
+-- what `hear` promises of its result and of the reply buffer
+abbrev pub Hears : Panel → List ℕ → List ℕ → Said → List ℕ → Type 0
+Hears p piece out r out′ = (r ≡ heardBy p (scannedBy p piece) out) × (out′ ≡ replyBy p (scannedBy p piece) out)

@@ -1,0 +1,53 @@
+// A piece of the line heard: the packet found in it, if any, carried out or refused, and its reply written.
+ghost use mathlib.Core.Path.{_≡_};
+ghost use Rattle.command.specs.Hear.{writtenLength, written, Hears};
+use crate::answer::Answer;
+use crate::answer::Said;
+use framing::packet::Packet;
+use panel::state::Panel;
+
+// The unfiled number is left as it is: what a refusal does to it is the register's to say.
+pub fn hear(p: Panel, piece: &[u8], reply: &mut [u8]) -> Said
+    ensures { λ r. ⌜ Hears p (now (piece .entry)) (now (reply .entry)) r (now (reply .exit)) ⌝ }
+{
+    let s = framing::scan::scan(p.hold, piece);
+    let mut q = p;
+    let hold = s.hold;
+    q.hold = hold;
+    if !s.found {
+        return Said {
+            panel: q,
+            answer: Answer::Waiting,
+            taken: s.taken,
+            dropped: s.dropped,
+            checked: s.checked,
+            reply: 0,
+            listed: 0,
+        };
+    }
+    let t = crate::step::step(p.body, s.packet);
+    let body = t.body;
+    q.body = body;
+    let written = write(t.replies, t.reply, reply);
+    let answer = t.answer;
+    Said {
+        panel: q,
+        answer,
+        taken: s.taken,
+        dropped: s.dropped,
+        checked: s.checked,
+        reply: written,
+        listed: 0,
+    }
+}
+
+fn write(replies: bool, reply: Packet, out: &mut [u8]) -> usize
+    ensures { λ r. ⌜ (r ≡ writtenLength replies reply (now (out .entry))) × (now (out .exit) ≡ written replies reply (now (out .entry))) ⌝ }
+{
+    if !replies {
+        return 0;
+    }
+    let content = reply.content;
+    let n = lists::at_most(reply.length, 22);
+    framing::packet::compose(out, reply.kind, &content[..n])
+}

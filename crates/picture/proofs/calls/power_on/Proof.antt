@@ -1,0 +1,60 @@
+use borrow.Author.Tests.{eq-eqb, ne-eqb}
+use Rattle.command.proofs.Checks.{here, later}
+use Rattle.picture.proofs.LineCalls.{power-refused, power-accepted}
+use native.Mathlib.Omega.{arith}
+use borrow.Author.Needs.{needs}
+use Rattle.picture.proofs.calls.power_on.Statement.{statement}
+use Rattle.picture.proofs.calls.power_on.Tie as tie
+use Rattle.picture.proofs.calls.power_on.Reads as reads
+use Rattle.picture.proofs.calls.power_on.Lts as lts
+use Rattle.command.proofs.answer.refused_call.Reads as refused-call-reads
+use Rattle.panel.proofs.state.powered_on.Reads as powered-on-reads
+use Rattle.picture.proofs.calls.accepted.Reads as accepted-reads
+use Rattle.picture.proofs.repaint.draw_all.Reads as draw-all-reads
+
+powered-on-requires : tie.Need-powered-on-requires
+powered-on-requires c κs = search needs
+
+refused-call-requires : tie.Need-refused-call-requires
+refused-call-requires c κs = search needs
+
+returns : tie.Need-returns
+returns c =
+    let a = c .before .before .before .before .before .args in
+    power-refused (a .picture .now) (a .font .now) (here (ne-eqb _ _ (c .before .if1 .taken))) (c .before .before .powered-on .ensures) (c .refused-call .ensures)
+
+refused-call-requires-2 : tie.Need-refused-call-requires-2
+refused-call-requires-2 c κs = search needs
+
+returns-2 : tie.Need-returns-2
+returns-2 c =
+    let a = c .before .before .before .before .before .before .args in
+    power-refused (a .picture .now) (a .font .now) (later (eq-eqb _ _ (c .before .before .if1 .left)) (here (ne-eqb _ _ (c .before .if2 .taken)))) (c .before .before .before .powered-on .ensures) (c .refused-call2 .ensures)
+
+draw-all-requires : tie.Need-draw-all-requires
+draw-all-requires c κs = search needs
+
+accepted-requires : tie.Need-accepted-requires
+accepted-requires c κs = search needs
+
+same-length : tie.Need-same-length
+same-length c = search needs
+
+returns-3 : tie.Need-returns-3
+returns-3 c =
+    let a = c .before .before .before .before .before .before .before .before .before .before .before .args in
+    power-accepted (a .picture .now) (a .font .now) (eq-eqb _ _ (c .before .before .before .before .before .before .before .if1 .left), (eq-eqb _ _ (c .before .before .before .before .before .before .if2 .left), tt)) (c .before .before .before .before .before .before .before .before .powered-on .ensures) (c .accepted .ensures) (c .before .before .before .draw-all .ensures)
+
+pub power-on-spec : {M : Type 1} → statement M
+power-on-spec =
+    tie.close
+    (tie.spec
+    powered-on-requires
+    refused-call-requires
+    returns
+    refused-call-requires-2
+    returns-2
+    draw-all-requires
+    accepted-requires
+    same-length
+    returns-3)

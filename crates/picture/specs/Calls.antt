@@ -1,0 +1,102 @@
+-- What power-on and a line call promise.
+use Prim.Native.Nat.{ℕ}
+use mathlib.Core.Path.{_≡_}
+use mathlib.Core.List.{List, [], _∷_}
+use lib.ListN.{length}
+use Rattle.lists.specs.Tests.{_≤?_, _=?_}
+use Rattle.lists.specs.Runs.{front}
+use Rattle.panel.specs.declared.state.Panel.{Panel}
+use Rattle.panel.specs.State.{poweredOn}
+use Rattle.panel.specs.Ranges.{inRanges}
+use Rattle.command.specs.declared.answer.Answer.{Answer}
+use Rattle.command.specs.declared.answer.Answer.the-variants.{Done, StateOutOfRange, PieceTooLong, PictureSize, FontSize, ListSize, ReplySize, RegisterSize}
+use Rattle.command.specs.declared.answer.Said.{Said}
+use Rattle.command.specs.Answer.{Check, check, decided, refusedCall}
+use Rattle.command.specs.Hear.{scannedBy, heardBy, replyBy}
+use Rattle.picture.specs.Draw.{Shown, shownBy, drawn}
+use Rattle.picture.specs.Repaint.{changed, painted}
+
+abbrev pub sized : List ℕ → ℕ → Answer → Check
+sized buffer size answer = check (length buffer =? size) answer
+
+-- "An accepted key, pin or power-on call answers 3."
+abbrev pub acceptedCall : Panel → Said
+acceptedCall p = record { panel = p; answer = Done 0; taken = 0; dropped = 0; checked = 0; reply = 0; listed = 0 }
+
+-- "power-on 12 and 13"
+abbrev pub powerChecks : List ℕ → List ℕ → List Check
+powerChecks picture font = sized picture 640 PictureSize ∷ sized font 2048 FontSize ∷ []
+
+-- a refused power-on "still returns the power-on state"; an accepted one answers 3
+abbrev pub powerSaid : List ℕ → List ℕ → Said
+powerSaid picture font = decided (powerChecks picture font) (refusedCall poweredOn) (acceptedCall poweredOn)
+
+-- "Power-on draws all 640 picture bytes and has no list."
+abbrev pub powerPicture : List ℕ → List ℕ → List ℕ
+powerPicture picture font = decided (powerChecks picture font) (λ a. picture) (drawn (shownBy (poweredOn .body .live)) font)
+
+-- what `power_on` promises of its result and of the picture
+abbrev pub PowersOn : List ℕ → List ℕ → Said → List ℕ → Type 0
+PowersOn picture font r picture′ = (r ≡ powerSaid picture font) × (picture′ ≡ powerPicture picture font)
+
+-- what is lent to a line call
+pub record Lent : Type 0 where
+  pub piece : List ℕ
+  pub picture : List ℕ
+  pub font : List ℕ
+  pub list : List ℕ
+  pub reply : List ℕ
+  pub records : ℕ
+
+abbrev pub lent : List ℕ → List ℕ → List ℕ → List ℕ → List ℕ → ℕ → Lent
+lent piece picture font list reply records =
+    record { piece = piece; picture = picture; font = font; list = list; reply = reply; records = records }
+
+-- "Line calls check 10 to 16"
+abbrev pub lineChecks : Panel → Lent → List Check
+lineChecks p l =
+    check (inRanges p) StateOutOfRange
+    ∷ check (length (l .piece) ≤? 4096) PieceTooLong
+    ∷ sized (l .picture) 640 PictureSize
+    ∷ sized (l .font) 2048 FontSize
+    ∷ sized (l .list) 80 ListSize
+    ∷ sized (l .reply) 26 ReplySize
+    ∷ check (l .records =? 64) RegisterSize
+    ∷ []
+
+-- the call once accepted, but for the list: what the panel hears of the piece
+abbrev pub heard : Panel → Lent → Said
+heard p l = heardBy p (scannedBy p (l .piece)) (l .reply)
+
+-- what is shown before and after
+abbrev pub shownBefore : Panel → Shown
+shownBefore p = shownBy (p .body .live)
+
+abbrev pub shownAfter : Panel → Lent → Shown
+shownAfter p l = shownBy (heard p l .panel .body .live)
+
+-- the cells whose drawing the call alters
+abbrev pub altered : Panel → Lent → List ℕ
+altered p l = changed (shownBefore p) (shownAfter p l) (l .font)
+
+abbrev pub withListed : Said → ℕ → Said
+withListed s n =
+    record { panel = s .panel; answer = s .answer; taken = s .taken; dropped = s .dropped; checked = s .checked; reply = s .reply; listed = n }
+
+abbrev pub lineSaid : Panel → Lent → Said
+lineSaid p l = decided (lineChecks p l) (refusedCall p) (withListed (heard p l) (length (altered p l)))
+
+abbrev pub linePicture : Panel → Lent → List ℕ
+linePicture p l = decided (lineChecks p l) (λ a. l .picture) (painted (shownBefore p) (shownAfter p l) (l .font) (l .picture))
+
+-- "A reply fills the front of its buffer and a list the front of its own; bytes behind keep their values."
+abbrev pub lineList : Panel → Lent → List ℕ
+lineList p l = decided (lineChecks p l) (λ a. l .list) (front (altered p l) (l .list))
+
+abbrev pub lineReply : Panel → Lent → List ℕ
+lineReply p l = decided (lineChecks p l) (λ a. l .reply) (replyBy p (scannedBy p (l .piece)) (l .reply))
+
+-- what `line` promises of its result and of the three lent buffers
+abbrev pub Lines : Panel → Lent → Said → List ℕ → List ℕ → List ℕ → Type 0
+Lines p l r picture′ list′ reply′ =
+    (r ≡ lineSaid p l) × (picture′ ≡ linePicture p l) × (list′ ≡ lineList p l) × (reply′ ≡ lineReply p l)

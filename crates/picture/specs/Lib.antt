@@ -1,0 +1,3 @@
+pub mod Draw
+pub mod Repaint
+pub mod Calls

@@ -1,0 +1,5 @@
+pub mod Counting
+pub mod Filings
+pub mod Seeking
+pub mod Theorems
+pub mod Walks

@@ -1,0 +1,54 @@
+// What filing does with one record, and with the unfiled number: all on plain values.
+ghost use Rattle.register.specs.Filing.{FilesOne, Unfiles};
+
+// A record of the register. A count of 0 makes it free, whatever its key.
+pub struct Record {
+    pub command: u8,
+    pub reason: u8,
+    pub place: u8,
+    pub count: u32,
+}
+
+// The key of a refusal.
+pub struct Refusal {
+    pub command: u8,
+    pub reason: u8,
+    pub place: u8,
+}
+
+// A record and the unfiled number after a filing.
+pub struct Filed {
+    pub fault: Record,
+    pub unfiled: u32,
+}
+
+// One more refusal that no record holds.
+pub fn unfiled_more(unfiled: u32) -> u32
+    ensures { λ q. ⌜ Unfiles unfiled q ⌝ }
+{
+    if unfiled < 4294967295 {
+        return unfiled + 1;
+    }
+    4294967295
+}
+
+// One more in a record that is free or has the key; in the unfiled number where the record's count is full.
+pub fn filed_in(k: Refusal, r: Record, unfiled: u32) -> Filed
+    ensures { λ q. ⌜ FilesOne k r unfiled q ⌝ }
+{
+    if r.count < 4294967295 {
+        let count = r.count + 1;
+        let fault = Record {
+            command: k.command,
+            reason: k.reason,
+            place: k.place,
+            count,
+        };
+        return Filed { fault, unfiled };
+    }
+    let more = unfiled_more(unfiled);
+    Filed {
+        fault: r,
+        unfiled: more,
+    }
+}

@@ -1,0 +1,85 @@
+// The functions over the run of records itself.
+ghost use mathlib.Core.Path.{_≡_};
+ghost use Rattle.register.specs.Filing.{slot, Counts, FilesAt, FilesIn, FilesBack, Empties};
+use crate::filing::Record;
+use crate::filing::Refusal;
+use crate::filing::filed_in;
+use crate::filing::unfiled_more;
+use crate::search::Seen;
+use crate::search::seen_more;
+use crate::search::slot_of;
+
+// A run of 64 records and the unfiled number after a filing.
+pub struct FiledIn {
+    pub register: [Record; 64],
+    pub unfiled: u32,
+}
+
+// How many records the run has.
+pub fn len(register: &[Record]) -> usize
+    ensures { λ r. ⌜ Counts (now (register .entry)) r ⌝ }
+{
+    register.len()
+}
+
+// The record to file in; past the end where there is none.
+fn find(register: &[Record], k: Refusal) -> usize
+    ensures { λ r. ⌜ r ≡ slot k (now (register .entry)) ⌝ }
+{
+    let mut s = Seen { known: 0, free: 0 };
+    let mut i = 0;
+    while i < register.len() {
+        s = seen_more(s, i, k, register[i]);
+        i += 1;
+    }
+    slot_of(s, i)
+}
+
+// One more in the record at `i`; past the end, in the unfiled number, which is returned.
+fn bump(register: &mut [Record], i: usize, k: Refusal, unfiled: u32) -> u32
+    ensures { λ r. ⌜ FilesAt (now (register .entry)) i k unfiled r (now (register .exit)) ⌝ }
+{
+    if i < register.len() {
+        let q = filed_in(k, register[i], unfiled);
+        register[i] = q.fault;
+        q.unfiled
+    } else {
+        unfiled_more(unfiled)
+    }
+}
+
+// Files a refusal where there is one, and returns the unfiled number.
+pub fn file(register: &mut [Record], refused: bool, k: Refusal, unfiled: u32) -> u32
+    ensures { λ r. ⌜ FilesIn (now (register .entry)) refused k unfiled r (now (register .exit)) ⌝ }
+{
+    if refused {
+        let i = find(register, k);
+        bump(register, i, k, unfiled)
+    } else {
+        unfiled
+    }
+}
+
+// The same with the run by value.
+pub fn file_in(register: [Record; 64], refused: bool, k: Refusal, unfiled: u32) -> FiledIn
+    ensures { λ r. ⌜ FilesBack register refused k unfiled r ⌝ }
+{
+    let mut records = register;
+    let left = file(&mut records, refused, k, unfiled);
+    FiledIn {
+        register: records,
+        unfiled: left,
+    }
+}
+
+// A run of 64 free records.
+pub fn empty() -> [Record; 64]
+    ensures { λ r. ⌜ Empties r ⌝ }
+{
+    [Record {
+        command: 0,
+        reason: 0,
+        place: 0,
+        count: 0,
+    }; 64]
+}
