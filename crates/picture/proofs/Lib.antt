@@ -1,6 +1,10 @@
 pub mod Changes
 pub mod Codes
+pub mod Fronts
 pub mod LineCalls
 pub mod Paints
 pub mod Places
+pub mod Replies
+pub mod Sequences
+pub mod Theorems
 pub mod Turns

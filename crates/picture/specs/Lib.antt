@@ -1,3 +1,4 @@
 pub mod Draw
 pub mod Repaint
 pub mod Calls
+pub mod Run

@@ -1,6 +1,6 @@
 -- Which cells a call changes, and the picture repainted: "A call's list comes from the state before and after, never from the
 -- lent picture; all eight bytes of each listed cell are written, and no other byte."
-use Prim.Native.Nat.{ℕ, zero, suc}
+use Prim.Native.Nat.{ℕ, zero, suc, _<_}
 use mathlib.Core.Path.{_≡_}
 use mathlib.Core.Bool.{Bool, true, _&&_}
 use mathlib.Core.List.{List, [], _∷_, _++_}
@@ -31,6 +31,10 @@ changed before after font = changedBelow before after font 80
 -- the picture with all eight bytes of each changed cell written
 unfoldable pub painted : Shown → Shown → List ℕ → List ℕ → List ℕ
 painted before after font picture = paint (same before after font) (cellDrawn after font) picture 80
+
+-- a cell stands in the first n places of a list
+abbrev pub ListedIn : List ℕ → ℕ → ℕ → Type 0
+ListedIn list n cell = (i : ℕ) × (i < n) × (getD list i 0 ≡ cell)
 
 -- what a repaint promises of how many cells it lists, of the picture and of the list
 abbrev pub Repaints : Shown → Shown → List ℕ → List ℕ → List ℕ → ℕ → List ℕ → List ℕ → Type 0
