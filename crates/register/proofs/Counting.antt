@@ -13,23 +13,27 @@ use Rattle.register.specs.declared.filing.Filed.{Filed}
 use Rattle.register.specs.Filing.{Files, blank, most, isFree, filedIn, filedAt, filed, filedAll, counts, total}
 
 -- one record replaced changes the sum by that record
-counts-set : (records : List Record) (i : ℕ) (r : Record) → i < length records → counts (set records i r) + getD records i blank .count ≡ counts records + r .count
+counts-set : (records : List Record) (i : ℕ) (r : Record) → i < length records
+    → counts (set records i r) + getD records i blank .count ≡ counts records + r .count
 unfolding counts
 counts-set [] i r h = absurd (omega arith)
 counts-set (q ∷ records) zero r h = omega arith
 counts-set (q ∷ records) (suc i) r h = omega (arith, counts-set records i r (omega arith))
 
 -- a record and the unfiled number together get one more
-one-more-in : (k : Refusal) (r : Record) (unfiled : ℕ) → unfiled < most → filedIn k r unfiled .fault .count + filedIn k r unfiled .unfiled ≡ r .count + unfiled + 1
+one-more-in : (k : Refusal) (r : Record) (unfiled : ℕ) → unfiled < most
+    → filedIn k r unfiled .fault .count + filedIn k r unfiled .unfiled ≡ r .count + unfiled + 1
 unfolding filedIn
-one-more-in k r unfiled h = when-either (λ (q : Filed). q .fault .count + q .unfiled ≡ r .count + unfiled + 1) _ _ _ (λ _. omega arith) (λ _. omega arith)
+one-more-in k r unfiled h =
+    when-either (λ (q : Filed). q .fault .count + q .unfiled ≡ r .count + unfiled + 1) _ _ _ (λ _. omega arith) (λ _. omega arith)
 
 one-more-at : (k : Refusal) (i : ℕ) (f : Files) → f .unfiled < most → total (filedAt k i f) ≡ total f + 1
 unfolding filedAt
 one-more-at k i f h =
     let r = getD (f .register) i blank in
     when-either (λ (g : Files). total g ≡ total f + 1) _ _ _
-    (λ e. omega (arith, counts-set (f .register) i (filedIn k r (f .unfiled) .fault) (ltb-true _ _ e), one-more-in k r (f .unfiled) h)) (λ _. omega arith)
+    (λ e. omega (arith, counts-set (f .register) i (filedIn k r (f .unfiled) .fault) (ltb-true _ _ e), one-more-in k r (f .unfiled) h))
+    (λ _. omega arith)
 
 pub one-more : (k : Refusal) (f : Files) → f .unfiled < most → total (filed k f) ≡ total f + 1
 unfolding filed

@@ -1,34 +1,43 @@
 -- What a filing comes to in each case: at a place inside the register and past its end, with a refusal and without.
-use mathlib.Core.Path.{_≡_, refl}
+use mathlib.Core.Path.{_≡_, refl, sym, ap}
 use mathlib.Core.Bool.{Bool, true, false, not}
+use mathlib.Core.List.{List}
 use Prim.Native.Nat.{ℕ, _<_, _≤_}
 use borrow.Author.Tests.{lt-ltb, le-ltb}
 use lib.Dec.{T}
 use lib.ListN.{length, getD, set, length-set}
 use Rattle.lists.specs.Tests.{when_then_else_}
 use Rattle.lists.proofs.Laws.{when-either, when-true, when-false}
+use Rattle.register.specs.declared.filing.Record.{Record}
 use Rattle.register.specs.declared.filing.Refusal.{Refusal}
-use Rattle.register.specs.Filing.{Files, blank, slot, unfiledMore, filedIn, filedAt, filed, filedIf}
+use Rattle.register.specs.Filing.{Files, blank, slot, unfiledMore, filedIn, filedAt, filed, filedIf, FilesAt, FilesIn}
 
-pub filed-inside : (k : Refusal) (i : ℕ) (f : Files) → i < length (f .register)
-    → filedAt k i f ≡ record { register = set (f .register) i (filedIn k (getD (f .register) i blank) (f .unfiled) .fault); unfiled = filedIn k (getD (f .register) i blank) (f .unfiled) .unfiled }
-unfolding filedAt
-filed-inside k i f h = when-true _ _ _ (lt-ltb i (length (f .register)) h)
+module _ (register : List Record) (k : Refusal) (unfiled : ℕ) where
+  -- what the register and the unfiled number come to, as a promise says it
+  as-promised : {f g : Files} → f ≡ g → (g .unfiled ≡ f .unfiled) × (g .register ≡ f .register)
+  as-promised e = (ap (λ (f : Files). f .unfiled) (sym e), ap (λ (f : Files). f .register) (sym e))
 
-pub filed-past : (k : Refusal) (i : ℕ) (f : Files) → length (f .register) ≤ i → filedAt k i f ≡ record { register = f .register; unfiled = unfiledMore (f .unfiled) }
-unfolding filedAt
-filed-past k i f h = when-false _ _ _ (le-ltb i (length (f .register)) h)
+  -- at a place inside the register, and past its end
+  pub files-inside : (i : ℕ) → i < length register
+      → let q = filedIn k (getD register i blank) unfiled in FilesAt register i k unfiled (q .unfiled) (set register i (q .fault))
+  unfolding filedAt
+  files-inside i h = as-promised (when-true _ _ _ (lt-ltb i (length register) h))
 
--- what a call files: the refusal, at its slot, where there is one
-pub filed-refused : (refused : Bool) (k : Refusal) (f : Files) → T refused → filedIf refused k f ≡ filedAt k (slot k (f .register)) f
-unfolding filedIf filed when_then_else_
-filed-refused true k f h = refl
-filed-refused false k f h = absurd h
+  pub files-past : (i : ℕ) → length register ≤ i → FilesAt register i k unfiled (unfiledMore unfiled) register
+  unfolding filedAt
+  files-past i h = as-promised (when-false _ _ _ (le-ltb i (length register) h))
 
-pub filed-not : (refused : Bool) (k : Refusal) (f : Files) → T (not refused) → filedIf refused k f ≡ f
-unfolding filedIf when_then_else_
-filed-not true k f h = absurd h
-filed-not false k f h = refl
+  -- where there is a refusal, it is filed at its slot; else nothing is
+  pub files-refused : (refused : Bool) → T refused → (m : ℕ) (register′ : List Record) → FilesAt register (slot k register) k unfiled m register′
+      → FilesIn register refused k unfiled m register′
+  unfolding filedIf filed when_then_else_
+  files-refused true h m register′ e = e
+  files-refused false h m register′ e = absurd h
+
+  pub files-not : (refused : Bool) → T (not refused) → FilesIn register refused k unfiled unfiled register
+  unfolding filedIf when_then_else_
+  files-not true h = absurd h
+  files-not false h = (refl, refl)
 
 -- a filing changes no length
 pub length-at : (k : Refusal) (i : ℕ) (f : Files) → length (filedAt k i f .register) ≡ length (f .register)

@@ -20,15 +20,19 @@ use Rattle.register.specs.Filing.{Files, blank, most, isFree, isWith, sl
 use Rattle.register.proofs.Counting as counting
 use Rattle.register.proofs.Filings as filings
 
--- The record that filing picks: the first in use with the key; else, none being so, the first free one; else none.
+-- What i is where filing picks the record at i: known, the first in use with the key; taken, none being so, the first free one;
+-- full, neither being there, past the end.
 pub data Picked (k : Refusal) (records : List Record) (i : ℕ) : Type 0 where
-  known : i < length records → isWith k (getD records i blank) ≡ true → ((j : ℕ) → j < i → isWith k (getD records j blank) ≡ false) → Picked k records i
+  known : i < length records → isWith k (getD records i blank) ≡ true → ((j : ℕ) → j < i → isWith k (getD records j blank) ≡ false)
+      → Picked k records i
   taken : i < length records → isFree (getD records i blank) ≡ true → ((j : ℕ) → j < i → isFree (getD records j blank) ≡ false)
       → ((j : ℕ) → j < length records → isWith k (getD records j blank) ≡ false)
       → Picked k records i
-  full : i ≡ length records → ((j : ℕ) → j < length records → isFree (getD records j blank) ≡ false) → ((j : ℕ) → j < length records → isWith k (getD records j blank) ≡ false)
+  full : i ≡ length records → ((j : ℕ) → j < length records → isFree (getD records j blank) ≡ false)
+      → ((j : ℕ) → j < length records → isWith k (getD records j blank) ≡ false)
       → Picked k records i
 
+-- The record that filing picks is the first in use with the key, else the first free one, else none.
 pub first-with-key : (k : Refusal) (records : List Record) → Picked k records (slot k records)
 unfolding slot
 first-with-key k records =
@@ -47,8 +51,8 @@ pub one-more : (k : Refusal) (f : Files) → f .unfiled < most → total (filed 
 one-more k f h = counting.one-more k f h
 
 -- From a register of free records and nothing unfiled, below 4,294,967,296 refusals, the counts plus unfiled equal the refusals filed.
-pub counts-add-up : (ks : List Refusal) (f : Files) → ((i : ℕ) → i < length (f .register) → isFree (getD (f .register) i blank) ≡ true) → f .unfiled ≡ 0
-    → length ks < 4294967296 → total (filedAll ks f) ≡ length ks
+pub counts-add-up : (ks : List Refusal) (f : Files) → ((i : ℕ) → i < length (f .register) → isFree (getD (f .register) i blank) ≡ true)
+    → f .unfiled ≡ 0 → length ks < 4294967296 → total (filedAll ks f) ≡ length ks
 counts-add-up ks f free unfiled few = let e = counting.counts-free (f .register) free in omega (arith, counting.adds-up ks f (omega arith))
 
 -- The records that `empty` returns are all free.
@@ -78,7 +82,8 @@ unfiled-more-determined unfiled = one _
 pub len-determined : (register : List Record) → Determined (Counts register)
 len-determined register = one _
 
-pub file-determined : (register : List Record) (refused : Bool) (k : Refusal) (unfiled : ℕ) → Determined (λ (x : ℕ × List Record). FilesIn register refused k unfiled (x .0) (x .1))
+pub file-determined : (register : List Record) (refused : Bool) (k : Refusal) (unfiled : ℕ)
+    → Determined (λ (x : ℕ × List Record). FilesIn register refused k unfiled (x .0) (x .1))
 file-determined register refused k unfiled = and (one _) (one _)
 
 pub file-in-determined : (register : List Record) (refused : Bool) (k : Refusal) (unfiled : ℕ) → Determined (FilesBack register refused k unfiled)

@@ -35,7 +35,7 @@ fn find(register: &[Record], k: Refusal) -> usize
     slot_of(s, i)
 }
 
-// One more in the record at `i`; past the end, in the unfiled number, which is returned.
+// Files at `i`, or, past the end, in the unfiled number; returns that number.
 fn bump(register: &mut [Record], i: usize, k: Refusal, unfiled: u32) -> u32
     ensures { λ r. ⌜ FilesAt (now (register .entry)) i k unfiled r (now (register .exit)) ⌝ }
 {

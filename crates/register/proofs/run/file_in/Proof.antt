@@ -1,5 +1,5 @@
--- `file_in` meets its promise: a walk of its MIR. The local array is taken apart into its records, which are lent as a slice for a lifetime of the call of `file`
--- and come back at the slice's last list; put together again, they are the result's.
+-- `file_in` meets its promise: a walk of its MIR. The local array is taken apart into its records, which are lent as a slice for a
+-- lifetime of the call of `file` and come back at the slice's last list; put together again, they are the result's.
 use mathlib.Core.Path.{_≡_, refl, sym, _∙_, subst}
 use mathlib.Core.Bool.{Bool}
 use mathlib.Core.Option.{some as holds}
@@ -54,7 +54,7 @@ use Rattle.register.specs.declared.filing.Record.{Record}
 use Rattle.register.specs.declared.filing.Refusal.{Refusal}
 use Rattle.register.specs.declared.run.FiledIn.{FiledIn}
 use Rattle.register.specs.Filing.{FilesIn}
-use Rattle.register.proofs.Walks.{in-order, span, frees-all, copied, sets, asks-lent, learns, meets}
+use Rattle.register.proofs.Walks.{in-order, span, frees-all, copied, sets, asks-lent, learns, gone, meets}
 use Rattle.register.proofs.filing.Record as T
 use Rattle.register.proofs.filing.Record.Laws as T′
 use Rattle.register.proofs.filing.Refusal as K
@@ -91,7 +91,8 @@ abbrev val-of : List Record → Val
 val-of xs = only (vals-of xs)
 
 -- the array as a field of a struct, where each record is the tuple of its fields
-each-tuple : (zs : List Record) (us : List Val) → shadow (each Record (T.the-row .own) zs us) → shadow (each (T.the-field .row .Denot) (T.the-field .row .own) (map (T.the-field .into) zs) us)
+each-tuple : (zs : List Record) (us : List Val) → shadow (each Record (T.the-row .own) zs us)
+    → shadow (each (T.the-field .row .Denot) (T.the-field .row .own) (map (T.the-field .into) zs) us)
 each-tuple [] [] s = s
 each-tuple [] (u ∷ us) s = s
 each-tuple (z ∷ zs) [] s = s
@@ -100,7 +101,8 @@ each-tuple (z ∷ zs) (u ∷ us) s = (s .0, each-tuple zs us (s .1))
 as-field : (zs : List Record) (vs : List Val) → Is R zs vs → Is (Array (T.the-field .row) 64) (map (T.the-field .into) zs) vs
 as-field zs vs p = (p .0, ((p .1 .0 .0, length-map zs (T.the-field .into) ∙ p .1 .0 .1), each-tuple zs (p .0) (p .1 .1)))
 
-module _ {M : Type 1} (𝓤 : URA M) (H : Heap 𝓤) (A : Atoms 𝓤) (W : Given 𝓤 H A) (mem : Memory → SProp 𝓤) (run : Routine → Fun 𝓤) (xs : List Record) (refused : Bool) (k : Refusal) (u : ℕ)
+module _ {M : Type 1} (𝓤 : URA M) (H : Heap 𝓤) (A : Atoms 𝓤) (W : Given 𝓤 H A) (mem : Memory → SProp 𝓤) (run : Routine → Fun 𝓤) (xs : List Record)
+    (refused : Bool) (k : Refusal) (u : ℕ)
     (gx : Is R xs (vals-of xs)) (gk : Is K.the-row k (K′.lowered k ∷ [])) (gu : u < 2 ^ 32) where
   abbrev Arg : Type 0
   Arg = List Record × (Bool × (Refusal × (ℕ × Unit {0})))
@@ -127,11 +129,14 @@ module _ {M : Type 1} (𝓤 : URA M) (H : Heap 𝓤) (A : Atoms 𝓤) (W : Given
   out-ok : (m : ℕ) (zs : List Record) → Is R zs (vals-of zs) → m < 2 ^ 32 → Is F.the-row (out m zs) (F′.lowered (out m zs) ∷ [])
   out-ok m zs gz gm = ((vals-of zs, (vint w32 m ∷ [], tt)), (refl, (as-field zs _ gz, ((refl, gm), tt))))
 
-  exits : (m : ℕ) (zs : List Record) → FilesIn xs refused k u m zs → Is F.the-row (out m zs) (F′.lowered (out m zs) ∷ []) → ent 𝓤 (emp 𝓤) (Post (F′.lowered (out m zs)))
+  exits : (m : ℕ) (zs : List Record) → FilesIn xs refused k u m zs → Is F.the-row (out m zs) (F′.lowered (out m zs) ∷ [])
+      → ent 𝓤 (emp 𝓤) (Post (F′.lowered (out m zs)))
   exits m zs e g =
       qed W [] ∵
-      suffices ! _ (ends-at 𝓤 H A file-in.ended stayed (file-in.clauses 𝓤 H A mem run) W ((tt, tt, tt, a, vals), tt) (F′.lowered (out m zs)) (out m zs) (tt, (tt, (tt, (tt, tt)))) (tt, (tt, (tt, (tt, tt))))) $
-      says ! (λ j. record { register = e .1 j; unfiled = e .0 j }) $ owned ! F.the-row (Is F.the-row) (LL.makes F.the-type F′.the-plain 𝓤 H A) (out m zs) _ g $
+      suffices ! _ (ends-at 𝓤 H A file-in.ended stayed (file-in.clauses 𝓤 H A mem run) W ((tt, tt, tt, a, vals), tt) (F′.lowered (out m zs))
+      (out m zs) (tt, (tt, (tt, (tt, tt)))) (tt, (tt, (tt, (tt, tt))))) $
+      says ! (λ j. record { register = e .1 j; unfiled = e .0 j }) $
+      owned ! F.the-row (Is F.the-row) (LL.makes F.the-type F′.the-plain 𝓤 H A) (out m zs) _ g $
       nothing ! $ nothing ! $ fjoin ! $ nothing ! $ fjoin ! $ nothing ! $ fjoin ! $ nothing ! $ fjoin ! $ nothing ! $ done !
 
   -- to `file`: the slice at the block l for the lifetime ν of the call, under the name δ
@@ -150,59 +155,86 @@ module _ {M : Type 1} (𝓤 : URA M) (H : Heap 𝓤) (A : Atoms 𝓤) (W : Given
   abbrev to-file : ℕ → ℕ → GName → File 𝓤 H A mem run .Ghost
   to-file l ν δ = (((ν ∷ [], tt), (fullShare, tt), tt, file-arg l δ, (sl l ∷ [], (vbool refused ∷ [], (K′.lowered k ∷ [], (vint w32 u ∷ [], tt))))), tt)
 
-  goes-file : (l ν : ℕ) (δ : GName) → ent 𝓤 (sep 𝓤 (A .lft (ν ∷ []) fullShare) (sem 𝓤 H A (MutSlice (named 0) (ν ∷ []) T.the-row .own (x l δ) (sl l ∷ [])))) (File 𝓤 H A mem run .pre (to-file l ν δ))
+  goes-file : (l ν : ℕ) (δ : GName)
+      → ent 𝓤 (sep 𝓤 (A .lft (ν ∷ []) fullShare) (sem 𝓤 H A (MutSlice (named 0) (ν ∷ []) T.the-row .own (x l δ) (sl l ∷ []))))
+      (File 𝓤 H A mem run .pre (to-file l ν δ))
   goes-file l ν δ =
-      asks-lent 𝓤 H A W (ν ∷ []) fullShare (MutSlice (named 0) (ν ∷ []) T.the-row) (x l δ) (sl l ∷ []) (bool ∷ K.the-row ∷ u32 ∷ []) (bool-makes 𝓤 H A W, (LL.makes K.the-type K′.the-plain 𝓤 H A, (uint-makes 𝓤 H A W w32, tt))) (refused, (k, (u, tt))) _
+      asks-lent 𝓤 H A W (ν ∷ []) fullShare (MutSlice (named 0) (ν ∷ []) T.the-row) (x l δ) (sl l ∷ []) (bool ∷ K.the-row ∷ u32 ∷ [])
+      (bool-makes 𝓤 H A W, (LL.makes K.the-type K′.the-plain 𝓤 H A, (uint-makes 𝓤 H A W w32, tt))) (refused, (k, (u, tt))) _
       (refl, (gk, ((refl, gu), tt)))
 
   module _ (C : Calls 𝓤 H) (Λ : Loops 𝓤 H) (fm : FmC 𝓤 H (W .laws) C) (known : Triple 𝓤 (C #file) (File 𝓤 H A mem run)) where
-    walk : ent 𝓤 (onEntry 𝓤 H A file-in.signature tt tt a vals) (WpFn 𝓤 H C Λ code.function (val-of xs ∷ vbool refused ∷ K′.lowered k ∷ vint w32 u ∷ []) Post)
+    walk : ent 𝓤 (onEntry 𝓤 H A file-in.signature tt tt a vals)
+        (WpFn 𝓤 H C Λ code.function (val-of xs ∷ vbool refused ∷ K′.lowered k ∷ vint w32 u ∷ []) Post)
     unfolding partOf
     walk =
-        qed W (‵ ftrue ∷ ‵ (owns (R ∷ bool ∷ K.the-row ∷ u32 ∷ []) a vals) ∷ []) ∵ keep ! [] $ enter ! C Λ code.function (val-of xs ∷ vbool refused ∷ K′.lowered k ∷ vint w32 u ∷ []) _ $
-        alloc1 ! (λ l₀. alloc1 ! (λ l₁. alloc1 ! (λ l₂. alloc1 ! (λ l₃. alloc1 ! (λ l₄. alloc1 ! (λ l₅. alloc1 ! (λ l₆. alloc1 ! (λ l₇. alloc1 ! (λ l₈. alloc1 ! (λ l₉. alloc0 ! $ move ! (in-order 10) $ params1 ! $
-        pass1 ! (init ! 2 refl (array-lawful 𝓤 H A W T.the-row (LL.lawful T.the-type T′.the-laws 𝓤 H A W) 64 .typed xs _ gx .0)) $ pass1 ! (init ! 4 refl (tt, tt)) $
-        pass1 ! (init ! 6 refl (LL.lawful K.the-type K′.the-laws 𝓤 H A W .typed k _ gk .0)) $ pass1 ! (init ! 8 refl (tt, record { fits = gu })) $ pass0 ! $
-        sets ! (of-opd ! (copied ! 2 refl)) (init ! 10 refl (array-lawful 𝓤 H A W T.the-row (LL.lawful T.the-type T′.the-laws 𝓤 H A W) 64 .typed xs _ gx .0)) $
+        qed W (‵ ftrue ∷ ‵ (owns (R ∷ bool ∷ K.the-row ∷ u32 ∷ []) a vals) ∷ []) ∵ keep ! [] $
+        enter ! C Λ code.function (val-of xs ∷ vbool refused ∷ K′.lowered k ∷ vint w32 u ∷ []) _ $
+        alloc1 ! (λ l₀. alloc1 ! (λ l₁. alloc1 ! (λ l₂. alloc1 ! (λ l₃. alloc1 ! (λ l₄. alloc1 ! (λ l₅. alloc1 ! (λ l₆. alloc1 ! (λ l₇.
+        alloc1 ! (λ l₈. alloc1 ! (λ l₉. alloc0 ! $ move ! (in-order 10) $ params1 ! $
+        pass1 ! (init ! 2 refl (array-lawful 𝓤 H A W T.the-row (LL.lawful T.the-type T′.the-laws 𝓤 H A W) 64 .typed xs _ gx .0)) $
+        pass1 ! (init ! 4 refl (tt, tt)) $
+        pass1 ! (init ! 6 refl (LL.lawful K.the-type K′.the-laws 𝓤 H A W .typed k _ gk .0)) $ pass1 ! (init ! 8 refl (tt, record { fits = gu })) $
+        pass0 ! $ sets ! (of-opd ! (copied ! 2 refl))
+        (init ! 10 refl (array-lawful 𝓤 H A W T.the-row (LL.lawful T.the-type T′.the-laws 𝓤 H A W) 64 .typed xs _ gx .0)) $
         sets ! (addr ! (from ! (stop !))) (init ! 14 refl (tt, tt)) $
-        sets ! (agg ! (and-then ! (copied ! 14 refl) (and-then ! (lit ! tt) (no-more !)))) (init ! 16 refl (tt, (tt, (record { fits = lit< tt }, tt)))) $
-        rewrite ! 16 (λ (m : ℕ). ‵ (fat fullShare (sliceTy (tyRef erased mut (pointee (T.the-row .written)))) l₈ 0 (sliceVal (l₅, 0) m))) (sym sixty-four) refl $
+        sets ! (agg ! (and-then ! (copied ! 14 refl) (and-then ! (lit ! tt) (no-more !))))
+        (init ! 16 refl (tt, (tt, (record { fits = lit< tt }, tt)))) $
+        rewrite ! 16 (λ (m : ℕ). ‵ (fat fullShare (sliceTy (tyRef erased mut (pointee (T.the-row .written)))) l₈ 0 (sliceVal (l₅, 0) m)))
+        (sym sixty-four) refl $
         -- the array is taken apart, and its records are lent
         move ! (10 ∷ []) $ use1 W (‵ (fat fullShare (rawTy array) l₅ 0 (val-of xs))) (W .laws .at-raw fullShare array l₅ 0 (val-of xs)) $
-        owned ! R (Is R) (array-makes 𝓤 H A W T.the-row (LL.makes T.the-type T′.the-plain 𝓤 H A) 64) xs (vals-of xs) gx $ move ! (1 ∷ 0 ∷ []) $ fjoin ! $
+        owned ! R (Is R) (array-makes 𝓤 H A W T.the-row (LL.makes T.the-type T′.the-plain 𝓤 H A) 64) xs (vals-of xs) gx $ move ! (1 ∷ 0 ∷ []) $
+        fjoin ! $
         fpack ! (List Val) (λ us. fsep (cellAt fullShare (R .mir) us l₅ 0) (R .own xs us)) (vals-of xs) $
-        use1 W (‵ (arr-parts (shares T.the-row) 64 .part fullShare xs l₅ 0)) (array-apart 𝓤 H A W T.the-row fullShare tt 64 xs l₅ 0) $ fsplit ! $ drop ! $ use1 W (‵ (cells (in-memory T.the-row) xs l₅ 0)) (whole-in 𝓤 H A W T.the-row xs l₅ 0) $
+        use1 W (‵ (arr-parts (shares T.the-row) 64 .part fullShare xs l₅ 0)) (array-apart 𝓤 H A W T.the-row fullShare tt 64 xs l₅ 0) $ fsplit ! $
+        drop ! $ use1 W (‵ (cells (in-memory T.the-row) xs l₅ 0)) (whole-in 𝓤 H A W T.the-row xs l₅ 0) $
         lft-new ! tt (λ ν. move ! (1 ∷ []) $
-        use1 W (later (some (λ (δ : GName). ‵ (MutSlice (named 0) (ν ∷ []) T.the-row .own (x l₅ δ) (sl l₅ ∷ [])) ⊛ ‵ (flent (ν ∷ []) (Held T.the-row (length xs) l₅ 0 δ))))) (lends-slice 𝓤 H A W T.the-row (named 0) (ν ∷ []) xs l₅ 0 room) $ await ! tt $ pick ! (λ δ. split ! $
+        use1 W (later (some (λ (δ : GName). ‵ (MutSlice (named 0) (ν ∷ []) T.the-row .own (x l₅ δ) (sl l₅ ∷ []))
+        ⊛ ‵ (flent (ν ∷ []) (Held T.the-row (length xs) l₅ 0 δ))))) (lends-slice 𝓤 H A W T.the-row (named 0) (ν ∷ []) xs l₅ 0 room) $ await ! tt $
+        pick ! (λ δ. split ! $
         move ! (2 ∷ 0 ∷ []) $ use2 W (raw (File 𝓤 H A mem run .pre (to-file l₅ ν δ))) (goes-file l₅ ν δ) $
         -- [what `file` asks; the lender's part; _0; …; _4; …; that _5 dies; _6; …; _9; …]
-        calls-at ! fm (File 𝓤 H A mem run) known (to-file l₅ ν δ) (and-then ! (copied ! 17 refl) (and-then ! (copied ! 6 refl) (and-then ! (copied ! 8 refl) (and-then ! (copied ! 10 refl) (no-more !))))) (λ v.
-        learns ! file.ended (file.clauses 𝓤 H A mem run) (to-file l₅ ν δ) (vint w32) (uint-tells w32) (λ m zs. FilesIn xs refused k u m (zs .0)) (λ m zs. id⊢ 𝓤 _) v (λ m zs e is.
+        calls-at ! fm (File 𝓤 H A mem run) known (to-file l₅ ν δ)
+        (and-then ! (copied ! 17 refl) (and-then ! (copied ! 6 refl) (and-then ! (copied ! 8 refl) (and-then ! (copied ! 10 refl) (no-more !)))))
+        (λ v.
+        learns ! file.ended (file.clauses 𝓤 H A mem run) (to-file l₅ ν δ) (vint w32) (uint-tells w32) (λ m zs. FilesIn xs refused k u m (zs .0))
+        (λ m zs. id⊢ 𝓤 _) v (λ m zs e is.
         land ! (from ! (stop !)) (init ! 14 refl (tt, record { fits = is .1 })) $
         -- the lifetime is ended, and the array comes back at the last list
-        use1 W (‵ (flft (ν ∷ []) fullShare)) (fst∗ 𝓤 _ (emp 𝓤)) $ lft-end ! tt $ move ! (1 ∷ []) $ fsplit ! $ fsplit ! $ move ! (1 ∷ []) $ feqL ! (λ len. move ! (2 ∷ 3 ∷ 0 ∷ []) $
-        use3 W (later (‵ (Arr (in-memory T.the-row) (length xs) .lies (zs .0) l₅ 0))) (slice-back 𝓤 H A W T.the-row (ν ∷ []) δ (zs .0) (length xs) l₅ 0) $ await ! tt $
-        fsplit ! $ drop ! $ use1 W (‵ (row T.the-row fullShare (zs .0) l₅ 0)) (whole-out 𝓤 H A W T.the-row (zs .0) l₅ 0) $ feqI ! ℕ (length (zs .0)) 64 (len ∙ sixty-four) $ fjoin ! $
+        use1 W (‵ (flft (ν ∷ []) fullShare)) (fst∗ 𝓤 _ (emp 𝓤)) $ lft-end ! tt $ move ! (1 ∷ []) $ fsplit ! $ fsplit ! $ move ! (1 ∷ []) $
+        feqL ! (λ len. move ! (2 ∷ 3 ∷ 0 ∷ []) $
+        use3 W (later (‵ (Arr (in-memory T.the-row) (length xs) .lies (zs .0) l₅ 0)))
+        (slice-back 𝓤 H A W T.the-row (ν ∷ []) δ (zs .0) (length xs) l₅ 0) $ await ! tt $
+        fsplit ! $ drop ! $ use1 W (‵ (row T.the-row fullShare (zs .0) l₅ 0)) (whole-out 𝓤 H A W T.the-row (zs .0) l₅ 0) $
+        feqI ! ℕ (length (zs .0)) 64 (len ∙ sixty-four) $ fjoin ! $
         use1 W (‵ (partAt R fullShare (zs .0) l₅ 0)) (array-whole 𝓤 H A W T.the-row fullShare 64 (zs .0) l₅ 0) $ fpick ! (λ vs. fsplit ! $
-        spelt ! R (Is R) (shows 𝓤 H A R) vals-of (array-tells T.the-row (LL.vals T.the-type T′.the-laws) (LL.tells T.the-type T′.the-laws) 64) fullShare (zs .0) vs l₅ 0 $ move ! (1 ∷ []) $
+        spelt ! R (Is R) (shows 𝓤 H A R) vals-of
+        (array-tells T.the-row (LL.vals T.the-type T′.the-laws) (LL.tells T.the-type T′.the-laws) 64) fullShare (zs .0) vs l₅ 0 $ move ! (1 ∷ []) $
         peeks ! R (Is R) (shows 𝓤 H A R) (zs .0) (vals-of (zs .0)) (λ gz. drop ! $ move ! (1 ∷ []) $ drop ! $
         -- [the array; _0; …; _4; …; that _5 dies; _6; …; _9; …]
         let g = out-ok m (zs .0) gz (is .1) in
-        sets ! (of-opd ! (load ! (from ! (stop !)) (look-raw ! 0 refl))) (init ! 18 refl (array-lawful 𝓤 H A W T.the-row (LL.lawful T.the-type T′.the-laws 𝓤 H A W) 64 .typed (zs .0) _ gz .0)) $
-        sets ! (agg ! (and-then ! (copied ! 18 refl) (and-then ! (copied ! 12 refl) (no-more !)))) (init ! 1 refl (LL.lawful F.the-type F′.the-laws 𝓤 H A W .typed (out m (zs .0)) _ g .0)) $
-        returns ! (look ! 1 refl) $ use1 W (‵ (fat fullShare array l₅ 0 (val-of (zs .0)))) (W .laws .raw-at fullShare array l₅ 0 (val-of (zs .0))) $ move ! (span 1 10) $
+        sets ! (of-opd ! (load ! (from ! (stop !)) (look-raw ! 0 refl)))
+        (init ! 18 refl (array-lawful 𝓤 H A W T.the-row (LL.lawful T.the-type T′.the-laws 𝓤 H A W) 64 .typed (zs .0) _ gz .0)) $
+        sets ! (agg ! (and-then ! (copied ! 18 refl) (and-then ! (copied ! 12 refl) (no-more !))))
+        (init ! 1 refl (LL.lawful F.the-type F′.the-laws 𝓤 H A W .typed (out m (zs .0)) _ g .0)) $
+        returns ! (look ! 1 refl) $ use1 W (‵ (fat fullShare array l₅ 0 (val-of (zs .0)))) (W .laws .raw-at fullShare array l₅ 0 (val-of (zs .0))) $
+        move ! (span 1 10) $
         frees-all ! (code.function .locals) (l₀ ∷ l₁ ∷ l₂ ∷ l₃ ∷ l₄ ∷ l₅ ∷ l₆ ∷ l₇ ∷ l₈ ∷ l₉ ∷ [])
-        (holds _ ∷ holds _ ∷ holds _ ∷ holds _ ∷ holds _ ∷ holds _ ∷ holds _ ∷ holds _ ∷ holds _ ∷ holds _ ∷ []) $ by ! (exits m (zs .0) e g))))))))))))))))))
+        (holds _ ∷ holds _ ∷ holds _ ∷ holds _ ∷ holds _ ∷ holds _ ∷ holds _ ∷ holds _ ∷ holds _ ∷ holds _ ∷ []) $
+        by ! (exits m (zs .0) e g))))))))))))))))))
 
-module _ {M : Type 1} (𝓤 : URA M) (H : Heap 𝓤) (A : Atoms 𝓤) (W : Given 𝓤 H A) (mem : Memory → SProp 𝓤) (run : Routine → Fun 𝓤) (𝓣 : Tables 𝓤 H) (known : Triple 𝓤 (𝓣 .C #file) (File 𝓤 H A mem run)) where
+module _ {M : Type 1} (𝓤 : URA M) (H : Heap 𝓤) (A : Atoms 𝓤) (W : Given 𝓤 H A) (mem : Memory → SProp 𝓤) (run : Routine → Fun 𝓤) (𝓣 : Tables 𝓤 H)
+    (known : Triple 𝓤 (𝓣 .C #file) (File 𝓤 H A mem run)) where
   file-in-meets : Meets 𝓤 H A file-in.signature (WpFn 𝓤 H (𝓣 .C) (𝓣 .Λ) code.function) (file-in.spec 𝓤 H A mem run)
   file-in-meets =
       meets 𝓤 H A file-in.ended stayed W
-      (goes-dropped 𝓤 H A W 0 (ArrayOf (plain (λ _. T.the-row)) (λ _. tt) 64) yes (λ κs x f. refl), (goes-dropped 𝓤 H A W 0 (plain (λ _. bool)) yes (λ κs x f. refl), (goes-dropped 𝓤 H A W 0 (plain (λ _. K.the-row)) yes (λ κs x f. refl), (goes-dropped 𝓤 H A W 0 (plain (λ _. u32)) yes (λ κs x f. refl), tt))))
+      (goes-dropped 𝓤 H A W 0 (ArrayOf (plain (λ _. T.the-row)) (λ _. tt) 64) yes (λ κs x f. refl), (gone 𝓤 H A W 0 bool (λ x f. refl), (gone 𝓤 H A W 0 K.the-row (λ x f. refl), (gone 𝓤 H A W 0 u32 (λ x f. refl), tt))))
       (file-in.clauses 𝓤 H A mem run) 𝓣 code.function (λ κs. (vals-of, (bool-vals, (LL.vals K.the-type K′.the-laws, (uint-vals w32, tt)))))
       (λ κs. (array-tells T.the-row (LL.vals T.the-type T′.the-laws) (LL.tells T.the-type T′.the-laws) 64, (bool-tells, (LL.tells K.the-type K′.the-laws, (uint-tells w32, tt)))))
       (λ κs qs bounds a g are. via 𝓤 _ (fst∗ 𝓤 _ (emp 𝓤))
-      (walk 𝓤 H A W mem run (a .0) (a .1 .0) (a .1 .1 .0) (a .1 .1 .1 .0) (are .0) (are .1 .1 .0) (are .1 .1 .1 .0 .1) (𝓣 .C) (𝓣 .Λ) (fmOf 𝓤 H (W .laws) 𝓣) known))
+      (walk 𝓤 H A W mem run (a .0) (a .1 .0) (a .1 .1 .0) (a .1 .1 .1 .0) (are .0) (are .1 .1 .0) (are .1 .1 .1 .0 .1) (𝓣 .C) (𝓣 .Λ)
+      (fmOf 𝓤 H (W .laws) 𝓣) known))
 
 pub file-in-spec : {M : Type 1} → stated.statement M
 unfolding code.routine tablesOf

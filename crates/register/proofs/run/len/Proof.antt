@@ -62,15 +62,20 @@ module _ {M : Type 1} (𝓤 : URA M) (H : Heap 𝓤) (A : Atoms 𝓤) (W : Given
   exits : ent 𝓤 (A .lft κ q) (Post (vint w64 n))
   exits =
       qed W (‵ (flft κ q) ∷ []) ∵
-      suffices ! _ (ends-at 𝓤 H A len.ended stayed (len.clauses 𝓤 H A mem run) W (((κ, tt), (q, tt), tt, x, (sl ∷ [], tt)), tt) (vint w64 n) n (tt, tt) (tt, tt)) $ says ! refl $
-      nothing ! $ move ! (1 ∷ 0 ∷ []) $ join ! $ frame ! $ nothing ! $ nothing ! $ fjoin ! $ frame ! $ owned ! usize (Is usize) (uint-makes 𝓤 H A W w64) n _ (refl, gn .0) $ done !
+      suffices ! _ (ends-at 𝓤 H A len.ended stayed (len.clauses 𝓤 H A mem run) W (((κ, tt), (q, tt), tt, x, (sl ∷ [], tt)), tt) (vint w64 n) n
+      (tt, tt) (tt, tt)) $ says ! refl $
+      nothing ! $ move ! (1 ∷ 0 ∷ []) $ join ! $ frame ! $ nothing ! $ nothing ! $ fjoin ! $ frame ! $
+      owned ! usize (Is usize) (uint-makes 𝓤 H A W w64) n _ (refl, gn .0) $ done !
 
-  walk : (C : Calls 𝓤 H) (Λ : Loops 𝓤 H) → ent 𝓤 (onEntry 𝓤 H A len.signature (κ, tt) (q, tt) x (sl ∷ [], tt)) (WpFn 𝓤 H C Λ code.function (sl ∷ []) Post)
+  walk : (C : Calls 𝓤 H) (Λ : Loops 𝓤 H)
+      → ent 𝓤 (onEntry 𝓤 H A len.signature (κ, tt) (q, tt) x (sl ∷ [], tt)) (WpFn 𝓤 H C Λ code.function (sl ∷ []) Post)
   walk C Λ =
       qed W ((‵ (flft κ q) ⊛ ‵ ftrue) ∷ ‵ (owns (ShrSlice (named 0) κ T.the-row ∷ []) x (sl ∷ [], tt)) ∷ []) ∵ enter ! C Λ code.function (sl ∷ []) _ $
-      alloc1 ! (λ l₀. alloc1 ! (λ l₁. alloc0 ! $ move ! (in-order 2) $ params1 ! $ pass1 ! (init ! 2 refl (tt, (tt, (record { fits = gn .0 }, tt)))) $ pass0 ! $
+      alloc1 ! (λ l₀. alloc1 ! (λ l₁. alloc0 ! $ move ! (in-order 2) $ params1 ! $ pass1 ! (init ! 2 refl (tt, (tt, (record { fits = gn .0 }, tt)))) $
+      pass0 ! $
       sets ! (of-opd ! (copied-part ! 2 1 refl refl refl)) (init ! 0 refl (tt, record { fits = gn .0 })) $
-      returns ! (look ! 0 refl) $ frees-all ! (code.function .locals) (l₀ ∷ l₁ ∷ []) (holds (vint w64 n) ∷ holds sl ∷ []) $ split ! $ move ! (1 ∷ 2 ∷ []) $ drop ! $ drop ! $ by ! exits))
+      returns ! (look ! 0 refl) $ frees-all ! (code.function .locals) (l₀ ∷ l₁ ∷ []) (holds (vint w64 n) ∷ holds sl ∷ []) $ split ! $
+      move ! (1 ∷ 2 ∷ []) $ drop ! $ drop ! $ by ! exits))
 
 module _ {M : Type 1} (𝓤 : URA M) (H : Heap 𝓤) (A : Atoms 𝓤) (W : Given 𝓤 H A) (mem : Memory → SProp 𝓤) (run : Routine → Fun 𝓤) (𝓣 : Tables 𝓤 H) where
   len-meets : Meets 𝓤 H A len.signature (WpFn 𝓤 H (𝓣 .C) (𝓣 .Λ) code.function) (len.spec 𝓤 H A mem run)
