@@ -25,7 +25,7 @@ unlike true false e = refl
 unlike false true e = refl
 unlike false false e = sym e
 
--- 1 shifted into a byte
+-- 1 shifted in a byte
 pub shifted : (k : ℕ) → k < 8 → 1 * 2 ^ k % 256 ≡ 2 ^ k
 shifted k h = rw (one-mul, mod-eq-of-lt (pow-lt h))
 
@@ -52,37 +52,38 @@ everywhere test = every (λ mask. every (test mask) 6) 64
 leaves : (ℕ → ℕ → ℕ) → ℕ → ℕ → ℕ → Bool
 leaves change mask number other = (other =? number) || Bool·beq (isOn (change mask number) other) (isOn mask other)
 
+-- what is computed everywhere holds of a mask and a key in their ranges
 module _ (mask number : ℕ) (m : mask ≤ 63) (n : number ≤ 5) where
-  here : (test : ℕ → ℕ → Bool) → everywhere test ≡ true → test mask number ≡ true
+  computed : (test : ℕ → ℕ → Bool) → everywhere test ≡ true → test mask number ≡ true
   unfolding everywhere
-  here test e = at-each (test mask) 6 (at-each (λ mask. every (test mask) 6) 64 e mask (omega arith)) number (omega arith)
+  computed test e = at-each (test mask) 6 (at-each (λ mask. every (test mask) 6) 64 e mask (omega arith)) number (omega arith)
 
-  left : (change : ℕ → ℕ → ℕ) → everywhere (λ mask number. every (leaves change mask number) 6) ≡ true
+  others : (change : ℕ → ℕ → ℕ) → everywhere (λ mask number. every (leaves change mask number) 6) ≡ true
       → (other : ℕ) → other ≤ 5 → (other ≡ number → ⊥) → isOn (change mask number) other ≡ isOn mask other
   unfolding leaves
-  left change e other o apart =
-      same _ _ (rw (ne-eqb other number apart) at (at-each (leaves change mask number) 6 (here (λ mask number. every (leaves change mask number) 6) e) other (omega arith)))
+  others change e other o apart =
+      same _ _ (rw (ne-eqb other number apart) at (at-each (leaves change mask number) 6 (computed (λ mask number. every (leaves change mask number) 6) e) other (omega arith)))
 
   pub with-bit-at-most : withBit mask number ≤ 63
   unfolding everywhere every firstBelow withBit isOn when_then_else_
-  with-bit-at-most = leb-true _ _ (here (λ mask number. withBit mask number ≤? 63) refl)
+  with-bit-at-most = leb-true _ _ (computed (λ mask number. withBit mask number ≤? 63) refl)
 
   pub without-bit-at-most : withoutBit mask number ≤ 63
   unfolding everywhere every firstBelow withoutBit isOn when_then_else_
-  without-bit-at-most = leb-true _ _ (here (λ mask number. withoutBit mask number ≤? 63) refl)
+  without-bit-at-most = leb-true _ _ (computed (λ mask number. withoutBit mask number ≤? 63) refl)
 
   pub with-bit-on : isOn (withBit mask number) number ≡ true
   unfolding everywhere every firstBelow withBit isOn when_then_else_
-  with-bit-on = here (λ mask number. isOn (withBit mask number) number) refl
+  with-bit-on = computed (λ mask number. isOn (withBit mask number) number) refl
 
   pub without-bit-off : isOn (withoutBit mask number) number ≡ false
   unfolding everywhere every firstBelow withoutBit isOn when_then_else_
-  without-bit-off = not-true _ (here (λ mask number. not (isOn (withoutBit mask number) number)) refl)
+  without-bit-off = not-true _ (computed (λ mask number. not (isOn (withoutBit mask number) number)) refl)
 
   pub with-bit-leaves : (other : ℕ) → other ≤ 5 → (other ≡ number → ⊥) → isOn (withBit mask number) other ≡ isOn mask other
   unfolding everywhere every leaves firstBelow withBit isOn when_then_else_
-  with-bit-leaves = left withBit refl
+  with-bit-leaves = others withBit refl
 
   pub without-bit-leaves : (other : ℕ) → other ≤ 5 → (other ≡ number → ⊥) → isOn (withoutBit mask number) other ≡ isOn mask other
   unfolding everywhere every leaves firstBelow withoutBit isOn when_then_else_
-  without-bit-leaves = left withoutBit refl
+  without-bit-leaves = others withoutBit refl

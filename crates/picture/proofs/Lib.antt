@@ -8,3 +8,4 @@ pub mod Replies
 pub mod Sequences
 pub mod Theorems
 pub mod Turns
+pub mod Worked

@@ -2,11 +2,12 @@
 use Prim.Native.Nat.{ℕ, _<_, _≤_}
 use mathlib.Core.Path.{_≡_, refl}
 use mathlib.Core.Logic.{_≢_, _↔_}
-use mathlib.Core.List.{List, [], _∷_}
+use mathlib.Core.List.{List, [], _∷_, map}
 use lib.ListN.{getD}
 use Rattle.lists.specs.Promise.{Determined}
 use Rattle.lists.proofs.Theorems.{one, and}
 use Rattle.panel.specs.declared.state.Panel.{Panel}
+use Rattle.panel.specs.State.{poweredOn}
 use Rattle.command.specs.declared.answer.Said.{Said}
 use Rattle.command.specs.Answer.{numbersOf, refusedCall}
 use Rattle.command.specs.Keys.{keySaid, keyReply}
@@ -15,8 +16,10 @@ use Rattle.picture.specs.Draw.{cellDrawn, shownBy, placeOf}
 use Rattle.picture.specs.Repaint.{ListedIn}
 use Rattle.picture.specs.Calls.{PowersOn, Lent, lent, shownBefore, lineSaid, linePicture, lineList, lineReply, Lines}
 use Rattle.picture.specs.Run.{Call, line, key, pin, World, Makes, Runs, done, more, Afresh}
+use Rattle.picture.specs.Worked.{told, piecesOf, expectedOf, table}
 use Rattle.picture.proofs.LineCalls as calls
 use Rattle.picture.proofs.Sequences.{kept-afresh}
+use Rattle.picture.proofs.Worked.{all-said}
 
 -- After an accepted power-on and any sequence of line, key and pin calls, refused ones among them, each lent buffers of any
 -- size and content but the same font, and the state and picture as the last call left them, the picture is the one drawn
@@ -74,3 +77,7 @@ power-on-determined picture font = and (one _) (one _)
 pub line-determined : (p : Panel) (l : Lent) → Determined (λ (x : Said × (List ℕ × (List ℕ × List ℕ))). Lines p l (x .0) (x .1 .0) (x .1 .1 .0) (x .1 .1 .1))
 line-determined p l x y m n =
     and (one _) (and (one _) (and (one _) (one _))) x y (m .0, (m .1, (m .2, m .3))) (n .0, (n .1, (n .2, n .3)))
+
+-- P1 to P10 of document 01, from power-on: each call says what the table of the worked cases has.
+pub worked : map (λ c. told poweredOn (piecesOf c)) table ≡ map expectedOf table
+worked = all-said

@@ -2,3 +2,4 @@ pub mod Draw
 pub mod Repaint
 pub mod Calls
 pub mod Run
+pub mod Worked

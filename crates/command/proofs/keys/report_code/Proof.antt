@@ -10,7 +10,7 @@ use Rattle.lists.specs.Tests.{_≤?_, all, allAtMost}
 use Rattle.command.proofs.keys.report_code.Statement.{statement}
 use Rattle.command.proofs.keys.report_code.Tie as tie
 
--- what is read of a list is no more than its most, nor past its end
+-- what is read of a list is at most its largest, also past its end
 read-at-most : (most : ℕ) (xs : List ℕ) → allAtMost most xs ≡ true → (i : ℕ) → getD xs i 0 ≤ most
 unfolding all
 read-at-most most [] e i = omega arith
@@ -25,8 +25,7 @@ at-requires c κs = search needs
 
 add-result : tie.Need-add-result
 unfolding all
-add-result c =
-    omega (arith, c .before .at .ensures, read-at-most 6 (1 ∷ 5 ∷ 6 ∷ 3 ∷ 4 ∷ 2 ∷ []) refl (c .before .before .before .args .number))
+add-result c = omega (arith, c .before .at .ensures, read-at-most 6 (1 ∷ 5 ∷ 6 ∷ 3 ∷ 4 ∷ 2 ∷ []) refl (c .before .before .before .args .number))
 
 returns : tie.Need-returns
 returns c = search needs
