@@ -84,10 +84,84 @@ pub fn hex4(n: u16) {
 
 // Each byte behind a blank.
 pub fn bytes(s: &[u8]) {
+    first_hex(s, s.len());
+}
+
+// A byte as a decimal number behind a word.
+pub fn small(before: &[u8], n: u8) {
+    word(before);
+    io::print_decimal(STDOUT_FILENO, n as u64);
+}
+
+// The first `n` bytes, each behind a blank, in hexadecimal.
+pub fn first_hex(s: &[u8], n: usize) {
     let mut i = 0;
-    while i < s.len() {
+    while i < s.len() && i < n {
         word(b" ");
         hex(s[i]);
         i += 1;
     }
+}
+
+// The first `n` bytes, each behind a blank, in decimal.
+pub fn first_decimal(s: &[u8], n: usize) {
+    let mut i = 0;
+    while i < s.len() && i < n {
+        small(b" ", s[i]);
+        i += 1;
+    }
+}
+
+// Reading decimal numbers: how many were passed, whether a digit came last, and the value of the one that is wanted.
+struct Reading {
+    passed: usize,
+    inside: bool,
+    value: usize,
+}
+
+// Exact up to ten digits, and no case has more.
+fn read_more(r: Reading, wanted: usize, b: u8) -> Reading {
+    let d = digit(b);
+    if d < 10 {
+        if r.passed == wanted {
+            return Reading {
+                passed: r.passed,
+                inside: true,
+                value: lists::at_most(r.value, 1000000000) * 10 + d as usize,
+            };
+        }
+        return Reading {
+            passed: r.passed,
+            inside: true,
+            value: r.value,
+        };
+    }
+    if r.inside {
+        return Reading {
+            passed: lists::at_most(r.passed, 1000) + 1,
+            inside: false,
+            value: r.value,
+        };
+    }
+    r
+}
+
+// The decimal number of `s` that has `wanted` others before it; 0 if there is none.
+pub fn decimal(s: &[u8], wanted: usize) -> usize {
+    let mut r = Reading {
+        passed: 0,
+        inside: false,
+        value: 0,
+    };
+    let mut i = 0;
+    while i < s.len() {
+        r = read_more(r, wanted, s[i]);
+        i += 1;
+    }
+    r.value
+}
+
+// The same as a byte; a larger number counts as 255.
+pub fn small_decimal(s: &[u8], wanted: usize) -> u8 {
+    lists::at_most(decimal(s, wanted), 255) as u8
 }

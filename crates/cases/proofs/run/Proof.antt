@@ -5,13 +5,13 @@ use Rattle.cases.proofs.run.Statement.{statement}
 use Rattle.cases.proofs.run.Tie as tie
 
 abbrev Inv-loop : tie.InvT-loop
-Inv-loop script s₀ at₀ s at = at ≤ length script + 1
+Inv-loop script font c₀ at₀ c at = at ≤ length script + 1
 
 abbrev μ-loop : tie.MeasureT-loop
-μ-loop script s₀ at₀ s at = length script - at
+μ-loop script font c₀ at₀ c at = length script - at
 
-nothing-held-requires : tie.Need-nothing-held-requires Inv-loop μ-loop
-nothing-held-requires c κs = search needs
+started-requires : tie.Need-started-requires Inv-loop μ-loop
+started-requires c κs = search needs
 
 loop-holds : tie.Need-loop-holds Inv-loop μ-loop
 loop-holds c = search needs
@@ -49,7 +49,7 @@ run-spec =
     (tie.spec
     Inv-loop
     μ-loop
-    nothing-held-requires
+    started-requires
     loop-holds
     line-end-requires
     sub-run-line

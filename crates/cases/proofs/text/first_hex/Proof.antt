@@ -1,14 +1,14 @@
 use Prim.Native.Nat.{_≤_, _-_}
 use lib.ListN.{length}
 use borrow.Author.Needs.{needs}
-use Rattle.cases.proofs.text.bytes.Statement.{statement}
-use Rattle.cases.proofs.text.bytes.Tie as tie
+use Rattle.cases.proofs.text.first_hex.Statement.{statement}
+use Rattle.cases.proofs.text.first_hex.Tie as tie
 
 abbrev Inv-loop : tie.InvT-loop
-Inv-loop s i₀ t3 i = i ≤ length s
+Inv-loop s n i₀ t4 i = i ≤ length s
 
 abbrev μ-loop : tie.MeasureT-loop
-μ-loop s i₀ t3 i = length s - i
+μ-loop s n i₀ t4 i = length s - i
 
 loop-holds : tie.Need-loop-holds Inv-loop μ-loop
 loop-holds c = search needs
@@ -37,8 +37,11 @@ loop-again c = search needs
 returns : tie.Need-returns Inv-loop μ-loop
 returns c = search needs
 
-pub bytes-spec : {M : Type 1} → statement M
-bytes-spec =
+returns-2 : tie.Need-returns-2 Inv-loop μ-loop
+returns-2 c = search needs
+
+pub first-hex-spec : {M : Type 1} → statement M
+first-hex-spec =
     tie.close
     (tie.spec
     Inv-loop
@@ -51,4 +54,5 @@ bytes-spec =
     add-i
     loop-less
     loop-again
-    returns)
+    returns
+    returns-2)
