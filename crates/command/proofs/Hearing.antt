@@ -1,6 +1,6 @@
 -- A piece heard, with and without a packet in it.
 use Prim.Native.Nat.{ℕ}
-use mathlib.Core.Path.{_≡_, sym, _∙_, ap}
+use mathlib.Core.Path.{_≡_, sym, _∙_}
 use mathlib.Core.Bool.{true, false}
 use mathlib.Core.List.{List}
 use Rattle.lists.proofs.Laws.{when-true, when-false}

@@ -1,7 +1,14 @@
+pub mod Allowed
 pub mod Bits
 pub mod Checks
+pub mod Effects
 pub mod Events
+pub mod Heard
+pub mod HearCalls
 pub mod Hearing
 pub mod InRange
 pub mod KeyCalls
+pub mod OtherCalls
+pub mod Played
+pub mod Stories
 pub mod Theorems

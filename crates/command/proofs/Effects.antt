@@ -1,0 +1,155 @@
+-- What an allowed command leaves is in its ranges.
+use Prim.Native.Nat.{ℕ, _<_, _≤_}
+use mathlib.Core.Path.{_≡_, refl}
+use mathlib.Core.Bool.{true, and-eq-true-iff}
+use mathlib.Core.List.{List}
+use native.Mathlib.Omega.{arith}
+use lib.ListN.{length, getD}
+use borrow.Author.Tests.{eqb-true, leb-true}
+use Rattle.lists.specs.Tests.{when_then_else_, _≤?_, _=?_, allAtMost}
+use Rattle.lists.proofs.Laws.{when-either}
+use Rattle.verdict.specs.declared.table.Rule.the-variants.{Glyph}
+use Rattle.verdict.specs.declared.verdict.Verdict.the-variants.{Allowed}
+use Rattle.verdict.specs.Table.{table, lookUp, configAllowed}
+use Rattle.verdict.specs.Verdict.{inRange, verdictOf}
+use Rattle.panel.specs.declared.state.Settings.{Settings}
+use Rattle.panel.specs.declared.state.Keys.{Keys}
+use Rattle.panel.specs.declared.state.Body.{Body}
+use Rattle.panel.specs.Glyphs.{eightFrom}
+use Rattle.panel.specs.Ranges.{configsInRange, numbersInRange, settingsInRange, keysInRange}
+use Rattle.panel.proofs.Every.{Every, Passes, glyph-set-passes, all-set}
+use Rattle.carry.specs.Carry.{withLive, withTextAndCursor, withNumbers, withGlyphs, withLevels, withGlyph, withCursor, withStyle, withContrast, withBacklight, withMasks, withText, withPin, polled, effect}
+use Rattle.command.proofs.Allowed.{Sound, allowed}
+use Rattle.command.proofs.InRange.{SettingsParts, settings-parts, settings-whole, NumbersParts, numbers-parts, numbers-whole, keys-parts, keys-whole}
+
+-- a body whose live and boot settings and keys are in their ranges
+pub record BodyInRange (b : Body) : Type 0 where
+  pub live : settingsInRange (b .live) ≡ true
+  pub boot : settingsInRange (b .boot) ≡ true
+  pub keys : keysInRange (b .keys) ≡ true
+
+polled-in-range : (k : Keys) → keysInRange k ≡ true → keysInRange (polled k) ≡ true
+polled-in-range k e = keys-whole _ record { down = keys-parts k e .down; pressed = omega arith; released = omega arith }
+
+module _ (s : Settings) (e : settingsInRange s ≡ true) where
+  parts : SettingsParts s
+  parts = settings-parts s e
+
+  numbers : NumbersParts s
+  numbers = numbers-parts s (parts .numbers)
+
+  with-cursor : (text : List ℕ) (column row : ℕ) → column ≤ 19 → row ≤ 3 → settingsInRange (withTextAndCursor s text column row) ≡ true
+  with-cursor text column row c r =
+      let n = numbers in
+      let p = parts in
+      settings-whole _ record {
+        numbers = numbers-whole _ record { column = c; row = r; style = n .style; contrast = n .contrast; backlight = n .backlight; press = n .press; release = n .release };
+        glyphs = p .glyphs;
+        levels = p .levels;
+        configs = p .configs;
+      }
+
+  with-numbers : (style contrast backlight press release : ℕ) → style ≤ 4 → contrast ≤ 254 → backlight ≤ 100 → press ≤ 63 → release ≤ 63
+      → settingsInRange (withNumbers s style contrast backlight press release) ≡ true
+  with-numbers style contrast backlight press release a b c d f =
+      let n = numbers in
+      let p = parts in
+      settings-whole _ record {
+        numbers = numbers-whole _ record { column = n .column; row = n .row; style = a; contrast = b; backlight = c; press = d; release = f };
+        glyphs = p .glyphs;
+        levels = p .levels;
+        configs = p .configs;
+      }
+
+  with-glyphs : (glyphs : List ℕ) → allAtMost 63 glyphs ≡ true → settingsInRange (withGlyphs s glyphs) ≡ true
+  unfolding numbersInRange
+  with-glyphs glyphs g = let p = parts in settings-whole _ record { numbers = p .numbers; glyphs = g; levels = p .levels; configs = p .configs }
+
+  with-levels : (levels configs : List ℕ) → allAtMost 100 levels ≡ true → configsInRange configs ≡ true → settingsInRange (withLevels s levels configs) ≡ true
+  unfolding numbersInRange
+  with-levels levels configs l c = let p = parts in settings-whole _ record { numbers = p .numbers; glyphs = p .glyphs; levels = l; configs = c }
+
+  -- the settings after each command that changes them, by its row of the table
+  module _ (d : List ℕ) where
+    glyph-in-range : Sound (lookUp 9 table) d → settingsInRange (withGlyph s d) ≡ true
+    unfolding lookUp when_then_else_ inRange
+    glyph-in-range h =
+        let n : 9 ≤ length d = h .enough in
+        let row : (i : ℕ) → i < 9 → inRange Glyph d i ≡ true = λ i l. h .each i (omega arith) in
+        let rows : Every (Passes (λ x. x ≤? 63)) (eightFrom d 1) = (
+          row 1 (omega arith),
+          (row 2 (omega arith), (row 3 (omega arith), (row 4 (omega arith), (row 5 (omega arith), (row 6 (omega arith), (row 7 (omega arith), (row 8 (omega arith), tt))))))),
+        ) in
+        with-glyphs _ (glyph-set-passes (λ x. x ≤? 63) refl (s .glyphs) (getD d 0 0) (eightFrom d 1) (parts .glyphs) rows)
+
+    cursor-in-range : Sound (lookUp 11 table) d → settingsInRange (withCursor s d) ≡ true
+    unfolding lookUp when_then_else_ inRange
+    cursor-in-range h =
+        let n : 2 ≤ length d = h .enough in
+        with-cursor _ _ _ (leb-true _ _ (h .each 0 (omega arith))) (leb-true _ _ (h .each 1 (omega arith)))
+
+    style-in-range : Sound (lookUp 12 table) d → settingsInRange (withStyle s d) ≡ true
+    unfolding lookUp when_then_else_ inRange
+    style-in-range h =
+        let n : 1 ≤ length d = h .enough in
+        let m = numbers in
+        with-numbers _ _ _ _ _ (leb-true _ _ (h .each 0 (omega arith))) (m .contrast) (m .backlight) (m .press) (m .release)
+
+    contrast-in-range : Sound (lookUp 13 table) d → settingsInRange (withContrast s d) ≡ true
+    unfolding lookUp when_then_else_ inRange
+    contrast-in-range h =
+        let n : 1 ≤ length d = h .enough in
+        let m = numbers in
+        with-numbers _ _ _ _ _ (m .style) (leb-true _ _ (h .each 0 (omega arith))) (m .backlight) (m .press) (m .release)
+
+    backlight-in-range : Sound (lookUp 14 table) d → settingsInRange (withBacklight s d) ≡ true
+    unfolding lookUp when_then_else_ inRange
+    backlight-in-range h =
+        let n : 1 ≤ length d = h .enough in
+        let m = numbers in
+        with-numbers _ _ _ _ _ (m .style) (m .contrast) (leb-true _ _ (h .each 0 (omega arith))) (m .press) (m .release)
+
+    masks-in-range : Sound (lookUp 23 table) d → settingsInRange (withMasks s d) ≡ true
+    unfolding lookUp when_then_else_ inRange
+    masks-in-range h =
+        let n : 2 ≤ length d = h .enough in
+        let m = numbers in
+        with-numbers _ _ _ _ _ (m .style) (m .contrast) (m .backlight) (leb-true _ _ (h .each 0 (omega arith))) (leb-true _ _ (h .each 1 (omega arith)))
+
+    text-in-range : settingsInRange (withText s d) ≡ true
+    unfolding settingsInRange numbersInRange
+    text-in-range = e
+
+    pin-in-range : Sound (lookUp 34 table) d → settingsInRange (withPin s d) ≡ true
+    unfolding lookUp when_then_else_ inRange
+    pin-in-range h =
+        let n : 2 ≤ length d = h .enough in
+        with-levels _ _ (all-set (λ x. x ≤? 100) (s .levels) (getD d 0 0) (getD d 1 0) (h .each 1 (omega arith)) (parts .levels))
+        (when-either (λ (l : List ℕ). configsInRange l ≡ true) (length d =? 3) _ _
+        (λ q. let l : length d ≡ 3 = eqb-true _ _ q in all-set configAllowed (s .configs) (getD d 0 0) (getD d 2 0) (and-eq-true-iff (getD d 0 0 ≤? 4) _ .0 (h .each 2 (omega arith)) .1) (parts .configs))
+        (λ _. parts .configs))
+
+-- Each command's row, in the order of `effect`.
+pub effect-in-range : (code : ℕ) (d : List ℕ) (b : Body) → verdictOf code d ≡ Allowed → BodyInRange b → BodyInRange (effect code d b)
+unfolding effect
+effect-in-range code d b v h =
+    pick 2 (λ _. record { live = h .live; boot = h .boot; keys = h .keys }) (
+    pick 4 (λ _. record { live = h .live; boot = h .live; keys = h .keys }) (
+    pick 5 (λ _. record { live = h .boot; boot = h .boot; keys = polled-in-range (b .keys) (h .keys) }) (
+    pick 6 (λ _. live (with-cursor (b .live) (h .live) _ 0 0 (omega arith) (omega arith))) (
+    pick 9 (λ s. live (glyph-in-range (b .live) (h .live) d s)) (
+    pick 11 (λ s. live (cursor-in-range (b .live) (h .live) d s)) (
+    pick 12 (λ s. live (style-in-range (b .live) (h .live) d s)) (
+    pick 13 (λ s. live (contrast-in-range (b .live) (h .live) d s)) (
+    pick 14 (λ s. live (backlight-in-range (b .live) (h .live) d s)) (
+    pick 23 (λ s. live (masks-in-range (b .live) (h .live) d s)) (
+    pick 24 (λ _. record { live = h .live; boot = h .boot; keys = polled-in-range (b .keys) (h .keys) }) (
+    pick 31 (λ _. live (text-in-range (b .live) (h .live) d)) (
+    pick 34 (λ s. live (pin-in-range (b .live) (h .live) d s)) (
+    pick 35 (λ _. record { live = h .live; boot = h .boot; keys = h .keys }) h)))))))))))))
+  where
+    pick : (c : ℕ) {x y : Body} → (Sound (lookUp c table) d → BodyInRange x) → BodyInRange y → BodyInRange (when code =? c then x else y)
+    pick c f g = when-either BodyInRange (code =? c) _ _ (λ e. f (allowed code d v c e)) (λ _. g)
+
+    live : {s : Settings} → settingsInRange s ≡ true → BodyInRange (withLive b s)
+    live e = record { live = e; boot = h .boot; keys = h .keys }
