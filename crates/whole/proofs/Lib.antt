@@ -1,3 +1,4 @@
 pub mod LineCalls
 pub mod Outcomes
+pub mod Sequences
 pub mod Theorems

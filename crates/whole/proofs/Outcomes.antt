@@ -137,3 +137,7 @@ module _ (p : Panel) (l : Lent) where
             called .3 ∙ accepted-by (lineChecks p l) passed _ _ ∙ heard-leaves .2 (omega (arith, heard-number)),
             u .1,
           )
+
+-- hearing leaves the unfiled number to the register
+pub heard-unfiled : (p : Panel) (l : Lent) → heard p l .panel .unfiled ≡ p .unfiled
+heard-unfiled p l = heard-leaves p l .3
