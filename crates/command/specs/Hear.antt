@@ -1,13 +1,12 @@
 -- A call's part on the line: what it hears and what it replies.
 use Prim.Native.Nat.{ℕ}
 use mathlib.Core.Path.{_≡_}
-use mathlib.Core.Bool.{Bool, true, false}
+use mathlib.Core.Bool.{Bool}
 use mathlib.Core.List.{List}
 use lib.ListN.{take}
 use Rattle.lists.specs.Tests.{when_then_else_}
 use Rattle.framing.specs.declared.packet.Packet.{Packet}
 use Rattle.framing.specs.declared.scan.Scanned.{Scanned}
-use Rattle.framing.specs.declared.hold.Hold.{Hold}
 use Rattle.framing.specs.Packet.{composedLength, composed}
 use Rattle.framing.specs.Hold.{held}
 use Rattle.framing.specs.Scan.{scan, scannedOf}
@@ -16,7 +15,6 @@ use Rattle.panel.specs.declared.state.Panel.{Panel}
 use Rattle.command.specs.declared.answer.Answer.{Answer}
 use Rattle.command.specs.declared.answer.Answer.the-variants.{Waiting}
 use Rattle.command.specs.declared.answer.Said.{Said}
-use Rattle.command.specs.declared.step.Stepped.{Stepped}
 use Rattle.carry.specs.Carry.{contentOf}
 use Rattle.command.specs.Step.{stepOf}
 

@@ -1,7 +1,7 @@
 -- What a packet from the line does: "a packet whose type is not a command" is a stray; a command is carried out or refused.
 use Prim.Native.Nat.{ℕ, _+_, _%_}
 use mathlib.Core.Bool.{true, false}
-use mathlib.Core.List.{List, []}
+use mathlib.Core.List.{[]}
 use Rattle.lists.specs.Tests.{when_then_else_, _<?_}
 use Rattle.framing.specs.declared.packet.Packet.{Packet}
 use Rattle.framing.specs.Packet.{packetOf}
