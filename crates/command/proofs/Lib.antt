@@ -8,7 +8,4 @@ pub mod HearCalls
 pub mod Hearing
 pub mod InRange
 pub mod KeyCalls
-pub mod OtherCalls
-pub mod Played
-pub mod Stories
 pub mod Theorems

@@ -1,6 +1,6 @@
 -- What holds of calls, on the line, of keys and of pins, over and above the functions' own promises.
 use Prim.Native.Nat.{ℕ, _+_, _<_, _≤_}
-use mathlib.Core.Path.{_≡_, refl, _∙_}
+use mathlib.Core.Path.{_≡_, _∙_}
 use mathlib.Core.Bool.{Bool, true, false}
 use mathlib.Core.List.{List, []}
 use native.Mathlib.Omega.{arith}
@@ -9,7 +9,6 @@ use Rattle.lists.specs.Promise.{Determined}
 use Rattle.lists.specs.Runs.{front}
 use Rattle.lists.proofs.Theorems.{one, and}
 use Rattle.framing.specs.Packet.{packetBytes}
-use Rattle.framing.proofs.Theorems as framing
 use Rattle.verdict.specs.declared.verdict.Reason.{Reason}
 use Rattle.verdict.specs.declared.verdict.Verdict.the-variants.{Allowed}
 use Rattle.verdict.specs.Verdict.{verdictOf}
@@ -25,14 +24,11 @@ use Rattle.command.specs.Answer.{numbersOf, refusedCall, Tells, Hands, R
 use Rattle.command.specs.Hear.{Hears}
 use Rattle.command.specs.Keys.{isOn, keyChecks, keyAccepted, Presses}
 use Rattle.command.specs.Pins.{pinChecks, pinAccepted, Moves}
-use Rattle.command.specs.Story.{key, pin, presses, moves, Entry, Story, places}
-use Rattle.command.proofs.Checks.{call-refused, call-unchanged, refused-by}
+use Rattle.command.proofs.Checks.{call-in-range, call-refused, call-unchanged, refused-by}
 use Rattle.command.proofs.Effects.{BodyInRange, effect-in-range}
 use Rattle.command.proofs.Events.{press-follows, release-follows, others-stay}
 use Rattle.command.proofs.HearCalls.{withHold, hear-in-range, hear-silent, hear-refused}
-use Rattle.command.proofs.KeyCalls.{key-happened}
-use Rattle.command.proofs.OtherCalls.{made-in-range}
-use Rattle.command.proofs.Stories.{story-played, same-story, story-of}
+use Rattle.command.proofs.KeyCalls.{accepted-in-range, key-happened}
 
 -- A command that the verdict allows takes a body whose live and boot settings and keys are in their ranges to such a body.
 pub effect-stays-in-range : (code : ℕ) (content : List ℕ) (b : Body) → verdictOf code content ≡ Allowed → BodyInRange b → BodyInRange (effect code content b)
@@ -62,7 +58,8 @@ module _ (p : Panel) (piece reply : List ℕ) (r : Said) (reply′ : List ℕ) (
 module _ (p : Panel) (number : ℕ) (down : Bool) (reply : List ℕ) (r : Said) (reply′ : List ℕ) (pressed : Presses p number down reply r reply′) where
   -- A key call takes a state in its ranges to one in its ranges.
   pub key-stays-in-range : inRanges p ≡ true → inRanges (r .panel) ≡ true
-  key-stays-in-range h = made-in-range {c = key number down} {out = reply} (presses pressed) h
+  key-stays-in-range h =
+      call-in-range p (keyChecks p number down reply) (keyAccepted p number down) r (pressed .0) (λ q. accepted-in-range p number down reply q) h
 
   -- A key call that is refused by a number of 10 or more leaves the panel and the reply buffer as they came, and counts nothing.
   pub refused-key-changes-nothing : 10 ≤ numbersOf (r .answer) .number → (r ≡ refusedCall p (r .answer)) × (reply′ ≡ reply)
@@ -98,29 +95,14 @@ module _ (p : Panel) (number : ℕ) (down : Bool) (reply : List ℕ) (r : Said) 
 module _ (p : Panel) (number : ℕ) (high : Bool) (r : Said) (moved : Moves p number high r) where
   -- A pin call takes a state in its ranges to one in its ranges.
   pub pin-stays-in-range : inRanges p ≡ true → inRanges (r .panel) ≡ true
-  pin-stays-in-range h = made-in-range {c = pin number high} {out = []} (moves moved) h
+  unfolding inRanges
+  pin-stays-in-range h = call-in-range p (pinChecks p number) (pinAccepted p number high) r moved (λ _. h) h
 
   -- A pin call that is refused by a number of 10 or more leaves the panel as it came, and counts nothing.
   pub refused-pin-changes-nothing : 10 ≤ numbersOf (r .answer) .number → r ≡ refusedCall p (r .answer)
   unfolding numbersOf
   refused-pin-changes-nothing h =
       call-unchanged p _ _ r moved (call-refused p (pinChecks p number) (pinAccepted p number high) r moved (omega arith) h .1)
-
--- Calls on the line, repeated until all is taken and the answer is waiting, come to an end.
-pub calls-end : (p : Panel) (bytes : List ℕ) → (entries : List Entry) × ((q : Panel) × Story p bytes entries q)
-calls-end p bytes = story-of (framing.calls-end (p .hold) bytes) p refl
-
-module _ {p : Panel} {bytes : List ℕ} (h : inRanges p ≡ true) (n : length (p .hold .bytes) ≤ 25) where
-  -- Any calls on the line, of keys and of pins take a state in its ranges to one in its ranges.
-  pub stays-in-range : {entries : List Entry} {q : Panel} → Story p bytes entries q → inRanges q ≡ true
-  stays-in-range s = story-played record { ranges = h; bytes = n } s .in-order .ranges
-
-  -- The same bytes cut into calls in any two ways, repeated until all is taken and the answer is waiting, with the same key
-  -- and pin calls after the same packets, come to the same panel, the same answers and the same replies. Whether those calls
-  -- fall after the same taken byte too makes no difference.
-  pub cut-anywhere : {entries entries′ : List Entry} {q q′ : Panel} → Story p bytes entries q → Story p bytes entries′ q′ → places 0 entries ≡ places 0 entries′
-      → (entries ≡ entries′) × (q ≡ q′)
-  cut-anywhere s s′ e = same-story record { ranges = h; bytes = n } s s′ e
 
 -- For each public function, any two results that its promise allows are equal, the lent buffer included.
 pub told-determined : (answer : Answer) → Determined (Tells answer)

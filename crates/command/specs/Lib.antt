@@ -3,4 +3,3 @@ pub mod Step
 pub mod Hear
 pub mod Keys
 pub mod Pins
-pub mod Story

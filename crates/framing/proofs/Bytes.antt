@@ -1,22 +1,20 @@
 -- Held bytes and packets as the code has them: arrays with a count.
-use mathlib.Core.Path.{_≡_, refl, sym, _∙_, ap}
+use mathlib.Core.Path.{_≡_, sym, _∙_, ap}
 use mathlib.Core.Bool.{true, false}
-use mathlib.Core.List.{List, [], _∷_, _++_, append-assoc}
-use Prim.Native.Nat.{ℕ, zero, suc, _+_, _-_, _<_, _≤_}
+use mathlib.Core.List.{List, [], _∷_, _++_}
+use Prim.Native.Nat.{ℕ, _+_, _-_, _<_, _≤_}
 use native.Mathlib.Nat.{zero-add, add-zero, add-comm}
 use native.Mathlib.Numerals.{add-one}
 use native.Mathlib.Omega.{arith}
-use lib.ListN.{length, take, drop, set, getD, replicate, length-append, length-replicate, length-take, length-drop}
-use lib.Seq.{paste, take-suc-set, length-take-le, length-paste-head, take-append-seam, take-at, take-all, getD-take, getD-drop, getD-append-add, take-take}
-use Rattle.lists.specs.Runs.{front, pasted}
-use Rattle.lists.proofs.Laws.{part, pasted-front, paste-turn, all-behind}
+use lib.ListN.{length, take, drop, set, getD, replicate, length-replicate, length-drop}
+use lib.Seq.{paste, take-suc-set, length-take-le, take-append-seam, take-at, take-all, getD-drop, getD-append-add}
+use Rattle.lists.specs.Runs.{pasted}
+use Rattle.lists.proofs.Laws.{pasted-front, paste-turn, all-behind}
 use Rattle.framing.specs.declared.hold.Hold.{Hold}
-use Rattle.framing.specs.declared.packet.Packet as packets
-use Rattle.framing.specs.declared.scan.Scanned.{Scanned}
-use Rattle.framing.specs.Packet.{padded, packetOf}
+use Rattle.framing.specs.Packet.{padded}
 use Rattle.framing.specs.Hold.{held, holdOf}
 use Rattle.framing.specs.Judge.{lengthByte}
-use Rattle.framing.specs.Scan.{Outcome, still, after, found, scannedOf}
+use Rattle.framing.specs.Scan.{still, after, found, scannedOf}
 
 -- what is held again is what was kept
 pub held-holdOf : (h : List ℕ) → held (holdOf h) ≡ h

@@ -1,12 +1,12 @@
 -- Every way to cut a line into calls comes to the whole line, and there is one.
 use mathlib.Core.Path.{_≡_, refl, sym, _∙_, ap}
 use mathlib.Core.Logic.{dite}
-use mathlib.Core.Bool.{Bool, true, false}
-use mathlib.Core.List.{List, [], _∷_, _++_, append-nil, append-assoc}
-use Prim.Native.Nat.{ℕ, zero, suc, _+_, _*_, _<_, _≤_}
+use mathlib.Core.Bool.{false}
+use mathlib.Core.List.{List, [], _++_, append-nil, append-assoc}
+use Prim.Native.Nat.{ℕ, zero, suc, _+_, _*_, _<_, _≤_, min}
 use native.Mathlib.Decide.{decLe}
 use native.Mathlib.Omega.{arith}
-use lib.ListN.{length, take, drop, take-append-drop, length-append, length-take, length-drop}
+use lib.ListN.{length, take, drop, take-append-drop, length-take, length-drop}
 use lib.Seq.{drop-length, take-all}
 use Rattle.framing.specs.declared.hold.Hold.{Hold}
 use Rattle.framing.specs.declared.scan.Scanned.{Scanned}
@@ -15,7 +15,7 @@ use Rattle.framing.specs.Scan.{Ending, waiting, packet, isPacket, Outcom
 use Rattle.framing.specs.Line.{Tally, nothingMore, counted, Calls, last, next, line}
 use Rattle.framing.proofs.Bytes.{held-holdOf}
 use Rattle.framing.proofs.Lines.{noted, counted-noted, scanned, all-taken}
-use Rattle.framing.proofs.Bounds.{least, call, taken-at-most}
+use Rattle.framing.proofs.Bounds.{call, taken-at-most}
 
 -- the piece as a call sees it, and the rest
 split : (piece more : List ℕ) → piece ++ more ≡ take 65535 piece ++ (drop 65535 piece ++ more)
@@ -48,44 +48,53 @@ nothing-left hold bytes r e t f =
     rw (t, append-nil, drop-length, append-nil, e, held-holdOf) (a .1)
 
 -- calls on the bytes from the hold, cut anywhere, come to the whole line
-pub whole-line : {hold : Hold} {bytes : List ℕ} {t : Tally} → Calls hold bytes t → t ≡ line (held hold ++ bytes)
-whole-line (last {hold = hold} {bytes = bytes} {r = r} e t f) =
+pub whole-line : {most : ℕ} {hold : Hold} {bytes : List ℕ} {t : Tally} → Calls most hold bytes t → t ≡ line (held hold ++ bytes)
+whole-line (last {hold = hold} {bytes = bytes} {r = r} n e t f) =
     ap (counted r) (sym (nothing-left hold bytes r e t f)) ∙ sym (by-call hold bytes [] r e) ∙ rw append-nil
-whole-line (next {hold = hold} piece more {r = r} e c) = ap (counted r) (whole-line c) ∙ sym (by-call hold piece more r e)
+whole-line (next {hold = hold} piece more {r = r} n e c) = ap (counted r) (whole-line c) ∙ sym (by-call hold piece more r e)
 
--- there is such a way: a call on all there is, and calls on what it leaves
-module _ (hold : Hold) (bytes : List ℕ) where
+-- there is such a way: a call on as much as there is and may be, and calls on what it leaves
+module _ (most : ℕ) (room : 1 ≤ most) (hold : Hold) (bytes : List ℕ) where
+  abbrev piece : List ℕ
+  piece = take most bytes
+
   abbrev outcome : Outcome
-  outcome = scan (held hold) (take 65535 bytes)
+  outcome = scan (held hold) (take 65535 piece)
 
-  go-on : Calls (holdOf (outcome .hold)) (drop (outcome .taken) bytes) (line (held (holdOf (outcome .hold)) ++ drop (outcome .taken) bytes)) → Calls hold bytes (line (held hold ++ bytes))
+  go-on : Calls most (holdOf (outcome .hold)) (drop (outcome .taken) bytes) (line (held (holdOf (outcome .hold)) ++ drop (outcome .taken) bytes)) → Calls most hold bytes (line (held hold ++ bytes))
   unfolding scannedOf
   go-on c =
-      let d : Calls (holdOf (outcome .hold)) (drop (outcome .taken) (bytes ++ [])) (line (held (holdOf (outcome .hold)) ++ drop (outcome .taken) (bytes ++ []))) = rw append-nil c in
-      let n = next {hold = hold} bytes [] {r = scannedOf outcome} refl d in
-      rw append-nil at (rw (← by-call hold bytes [] (scannedOf outcome) refl) at n)
+      let whole : piece ++ drop most bytes ≡ bytes = take-append-drop most bytes in
+      let d : Calls most (holdOf (outcome .hold)) (drop (outcome .taken) (piece ++ drop most bytes)) (line (held (holdOf (outcome .hold)) ++ drop (outcome .taken) (piece ++ drop most bytes))) = rw whole c in
+      let n : Calls most hold (piece ++ drop most bytes) (counted (scannedOf outcome) (line (held (holdOf (outcome .hold)) ++ drop (outcome .taken) (piece ++ drop most bytes)))) =
+      next piece (drop most bytes) (omega (arith, length-take most bytes)) refl d in
+      rw whole at (rw (← by-call hold piece (drop most bytes) (scannedOf outcome) refl) at n)
 
-  ends-at : (f : ℕ) → length (held hold) + 2 * length bytes ≤ f → ((g : Hold) (more : List ℕ) → length (held g) + 2 * length more < f → Calls g more (line (held g ++ more)))
-      → (e : Ending) → outcome .ending ≡ e → Calls hold bytes (line (held hold ++ bytes))
+  ends-at : (f : ℕ) → length (held hold) + 2 * length bytes ≤ f → ((g : Hold) (more : List ℕ) → length (held g) + 2 * length more < f → Calls most g more (line (held g ++ more)))
+      → (e : Ending) → outcome .ending ≡ e → Calls most hold bytes (line (held hold ++ bytes))
   unfolding scannedOf
   ends-at f n ih waiting q =
-      let t = all-taken (held hold) (take 65535 bytes) q .0 in
-      let i = call (held hold) (take 65535 bytes) in
+      let t = all-taken (held hold) (take 65535 piece) q .0 in
+      let i = call (held hold) (take 65535 piece) in
       let k = rw q at (i .kept) in
-      dite (decLe (length bytes) 65535)
+      let l : outcome .taken ≡ length (take 65535 piece) = t in
+      dite (decLe (length bytes) (min most 65535))
       (λ p.
-      let all : outcome .taken ≡ length bytes = t ∙ rw (take-all 65535 bytes p) in
-      let c = last {hold = hold} {bytes = bytes} {r = scannedOf outcome} refl all (ap isPacket q) in
+      let same : piece ≡ bytes = take-all most bytes (omega arith) in
+      let all : outcome .taken ≡ length bytes = t ∙ rw (same, take-all 65535 bytes (omega arith)) in
+      let c : Calls most hold bytes (counted (scannedOf outcome) (nothingMore (holdOf (outcome .hold)))) =
+      last (omega arith) (ap (λ (x : List ℕ). scannedOf (scan (held hold) (take 65535 x))) same) all (ap isPacket q) in
       rw (whole-line c) at c)
-      (λ p. go-on (ih (holdOf (outcome .hold)) (drop (outcome .taken) bytes) (rw held-holdOf (omega (arith, length-drop (outcome .taken) bytes, length-take 65535 bytes)))))
+      (λ p. go-on (ih (holdOf (outcome .hold)) (drop (outcome .taken) bytes) (rw held-holdOf (omega (arith, length-drop (outcome .taken) bytes, length-take 65535 piece, length-take most bytes)))))
   ends-at f n ih (packet k d) q =
-      let i = call (held hold) (take 65535 bytes) in
+      let i = call (held hold) (take 65535 piece) in
       let j = rw q at (i .kept) in
-      go-on (ih (holdOf (outcome .hold)) (drop (outcome .taken) bytes) (rw held-holdOf (omega (arith, length-drop (outcome .taken) bytes, taken-at-most (held hold) (take 65535 bytes), length-take 65535 bytes))))
+      go-on (ih (holdOf (outcome .hold)) (drop (outcome .taken) bytes) (rw held-holdOf (omega (arith, length-drop (outcome .taken) bytes, taken-at-most (held hold) (take 65535 piece), length-take 65535 piece, length-take most bytes))))
 
-ends-in : (f : ℕ) (hold : Hold) (bytes : List ℕ) → length (held hold) + 2 * length bytes < f → Calls hold bytes (line (held hold ++ bytes))
-ends-in zero hold bytes n = absurd (omega arith)
-ends-in (suc f) hold bytes n = ends-at hold bytes f (omega arith) (λ g more m. ends-in f g more m) (outcome hold bytes .ending) refl
+ends-in : (most : ℕ) → 1 ≤ most → (f : ℕ) (hold : Hold) (bytes : List ℕ) → length (held hold) + 2 * length bytes < f → Calls most hold bytes (line (held hold ++ bytes))
+ends-in most room zero hold bytes n = absurd (omega arith)
+ends-in most room (suc f) hold bytes n =
+    ends-at most room hold bytes f (omega arith) (λ g more m. ends-in most room f g more m) (outcome most room hold bytes .ending) refl
 
-pub ends : (hold : Hold) (bytes : List ℕ) → Calls hold bytes (line (held hold ++ bytes))
-ends hold bytes = ends-in (suc (length (held hold) + 2 * length bytes)) hold bytes (omega arith)
+pub ends : (most : ℕ) → 1 ≤ most → (hold : Hold) (bytes : List ℕ) → Calls most hold bytes (line (held hold ++ bytes))
+ends most room hold bytes = ends-in most room (suc (length (held hold) + 2 * length bytes)) hold bytes (omega arith)

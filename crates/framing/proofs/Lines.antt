@@ -1,5 +1,5 @@
 -- The whole line, a settling at a time and a call at a time.
-use mathlib.Core.Path.{_≡_, refl, sym, _∙_, ap}
+use mathlib.Core.Path.{_≡_, refl, _∙_, ap}
 use mathlib.Core.List.{List, [], _∷_, _++_}
 use Prim.Native.Nat.{ℕ, zero, suc, _+_, _<_}
 use native.Mathlib.Nat.{zero-add, add-assoc}
@@ -14,7 +14,7 @@ use Rattle.framing.specs.declared.packet.Packet as packets
 use Rattle.framing.specs.Packet.{packetOf}
 use Rattle.framing.specs.Hold.{holdOf}
 use Rattle.framing.specs.Judge.{lengthByte, judge}
-use Rattle.framing.specs.Scan.{Ending, waiting, packet, packetAt, Outcome, still, after, found, settleAt, settle, goOn, scan, scannedOf}
+use Rattle.framing.specs.Scan.{Ending, waiting, packet, packetAt, Outcome, settleAt, settle, goOn, scan, scannedOf}
 use Rattle.framing.specs.Line.{Tally, nothingMore, onto, packetsIn, counted, lineAt, lineFrom, line}
 use Rattle.framing.proofs.Judgements.{more-long, more-wrong, more-packet}
 

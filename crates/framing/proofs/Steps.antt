@@ -1,8 +1,8 @@
 -- A call, one judgement at a time: after t bytes taken, d dropped and k run through the checksum.
-use mathlib.Core.Path.{_≡_, refl, sym, _∙_, ap}
+use mathlib.Core.Path.{_≡_, refl, _∙_, ap}
 use mathlib.Core.List.{List, [], _∷_, _++_}
 use Prim.Native.Nat.{ℕ, _+_, _<_, _≤_}
-use native.Mathlib.Nat.{zero-add, add-zero, add-assoc}
+use native.Mathlib.Nat.{zero-add, add-assoc}
 use native.Mathlib.Numerals.{add-one}
 use native.Mathlib.Omega.{arith}
 use lib.ListN.{length, drop, getD, drop-of-length-le}
@@ -11,7 +11,7 @@ use Rattle.framing.specs.declared.judge.Judgement.{Judgement}
 use Rattle.framing.specs.declared.judge.Judgement.the-variants.{Wait, LongLength, WrongChecksum, Packet}
 use Rattle.framing.specs.Judge.{lengthByte, judge}
 use Rattle.framing.specs.Scan.{Ending, waiting, packet, Outcome, still, after, found, settleAt, settle, goOn, scan}
-use Rattle.framing.proofs.Judgements.{Seen, short, part, long, wrong, whole, see}
+use Rattle.framing.proofs.Judgements.{Seen, long, wrong, whole, see}
 
 -- settling begins with the judgement of the oldest
 settle-at : (h : List ℕ) (j : Judgement) → 0 < length h → judge h ≡ j → settle h ≡ settleAt j h (settle (drop 1 h))

@@ -1,5 +1,5 @@
 -- What holds of packets on the line over and above the functions' own promises.
-use mathlib.Core.Path.{_≡_, sym, _∙_, ap}
+use mathlib.Core.Path.{_≡_, sym, _∙_}
 use mathlib.Core.List.{List, [], _∷_, _++_}
 use Prim.Native.Nat.{ℕ, _+_, _*_, _≤_}
 use native.Mathlib.Omega.{arith}
@@ -7,13 +7,12 @@ use lib.ListN.{length, take, length-take}
 use Rattle.lists.specs.Promise.{Determined}
 use Rattle.lists.proofs.Theorems.{one, and}
 use Rattle.framing.specs.declared.hold.Hold.{Hold}
-use Rattle.framing.specs.declared.judge.Judgement.{Judgement}
 use Rattle.framing.specs.declared.scan.Scanned.{Scanned}
 use Rattle.framing.specs.Fcs.{Sums}
 use Rattle.framing.specs.Packet.{packetBytes, packetOf, Composes}
 use Rattle.framing.specs.Hold.{held, Empties}
 use Rattle.framing.specs.Judge.{Judges}
-use Rattle.framing.specs.Scan.{scan, scannedOf, Scans}
+use Rattle.framing.specs.Scan.{scannedOf, Scans}
 use Rattle.framing.specs.Line.{Tally, Calls, onto, line}
 use Rattle.framing.proofs.Bounds as bounds
 use Rattle.framing.proofs.Composing as composing
@@ -37,12 +36,12 @@ module _ (hold : Hold) (piece : List ℕ) (r : Scanned) (scanned : Scans hold pi
 
 -- The same bytes cut into calls in any two ways, repeated until all is taken and the answer is waiting, come to the same
 -- packets, the same hold and the same sums of dropped and checked bytes.
-pub cut-anywhere : {hold : Hold} {bytes : List ℕ} {t t′ : Tally} → Calls hold bytes t → Calls hold bytes t′ → t ≡ t′
+pub cut-anywhere : {most most′ : ℕ} {hold : Hold} {bytes : List ℕ} {t t′ : Tally} → Calls most hold bytes t → Calls most′ hold bytes t′ → t ≡ t′
 cut-anywhere c c′ = cuts.whole-line c ∙ sym (cuts.whole-line c′)
 
--- Such calls come to an end, and to what the whole line says.
-pub calls-end : (hold : Hold) (bytes : List ℕ) → Calls hold bytes (line (held hold ++ bytes))
-calls-end hold bytes = cuts.ends hold bytes
+-- Such calls come to an end, and to what the whole line says, also with pieces of one byte.
+pub calls-end : (most : ℕ) → 1 ≤ most → (hold : Hold) (bytes : List ℕ) → Calls most hold bytes (line (held hold ++ bytes))
+calls-end most room hold bytes = cuts.ends most room hold bytes
 
 -- A packet that was composed is found again, with nothing dropped, whatever follows it on the line.
 pub composed-is-found : (kind : ℕ) (content s : List ℕ) → length content ≤ 22

@@ -1,12 +1,12 @@
 -- What holds at each turn of a call's loop: c bytes of the window w held, t taken of the piece p, d dropped, k run
 -- through the checksum, since the call began with the bytes h.
-use mathlib.Core.Path.{_≡_, refl, sym, _∙_, ap}
-use mathlib.Core.List.{List, [], _∷_, _++_}
+use mathlib.Core.Path.{_≡_, sym, _∙_, ap}
+use mathlib.Core.List.{List}
 use Prim.Native.Nat.{ℕ, _+_, _*_, _-_, _<_, _≤_, min}
 use native.Mathlib.Nat.{zero-add}
 use native.Mathlib.Omega.{arith}
-use lib.ListN.{length, take, drop, set, getD, replicate, length-take, length-set}
-use lib.Seq.{length-take-le, take-take, take-all, getD-take, take-at}
+use lib.ListN.{length, take, drop, set, getD, replicate, length-set}
+use lib.Seq.{length-take-le, take-take, getD-take, take-at}
 use Rattle.lists.specs.Runs.{pasted, front}
 use Rattle.lists.proofs.Laws.{part, length-pasted, take-limited}
 use Rattle.framing.specs.declared.judge.Judgement.the-variants.{Wait, LongLength, WrongChecksum, Packet}

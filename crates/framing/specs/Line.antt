@@ -1,5 +1,5 @@
 -- Calls repeated until all is taken and the answer is waiting; and the same line read whole, without calls.
-use Prim.Native.Nat.{ℕ, zero, suc, _+_}
+use Prim.Native.Nat.{ℕ, zero, suc, _+_, _≤_}
 use mathlib.Core.Path.{_≡_}
 use mathlib.Core.Bool.{false}
 use mathlib.Core.List.{List, [], _∷_, _++_}
@@ -36,14 +36,15 @@ packetsIn r = when r .found then r .packet ∷ [] else []
 abbrev pub counted : Scanned → Tally → Tally
 counted r t = onto (packetsIn r) (r .dropped) (r .checked) t
 
--- Calls hold bytes t: the bytes, cut into pieces anywhere and given to calls that begin with the hold, come to t
-pub data Calls : Hold → List ℕ → Tally → Type 0 where
+-- Calls most hold bytes t: the bytes, cut anywhere into pieces of at most that many and given to calls that begin with the
+-- hold, come to t
+pub data Calls (most : ℕ) : Hold → List ℕ → Tally → Type 0 where
   -- the last call: all is taken and the answer is waiting
-  last : {hold : Hold} {bytes : List ℕ} {r : Scanned} → Scans hold bytes r → r .taken ≡ length bytes → r .found ≡ false
-      → Calls hold bytes (counted r (nothingMore (r .hold)))
+  last : {hold : Hold} {bytes : List ℕ} {r : Scanned} → length bytes ≤ most → Scans hold bytes r → r .taken ≡ length bytes → r .found ≡ false
+      → Calls most hold bytes (counted r (nothingMore (r .hold)))
   -- a call on a piece, and then calls on what it has not taken and what comes behind
-  next : {hold : Hold} (piece more : List ℕ) {r : Scanned} {t : Tally} → Scans hold piece r
-      → Calls (r .hold) (drop (r .taken) (piece ++ more)) t → Calls hold (piece ++ more) (counted r t)
+  next : {hold : Hold} (piece more : List ℕ) {r : Scanned} {t : Tally} → length piece ≤ most → Scans hold piece r
+      → Calls most (r .hold) (drop (r .taken) (piece ++ more)) t → Calls most hold (piece ++ more) (counted r t)
 
 -- what becomes of the line w by the judgement at its oldest byte, where d is the tally of the line without that byte and
 -- p the tally of the line without the packet that it begins with

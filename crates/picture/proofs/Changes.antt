@@ -11,7 +11,7 @@ use lib.Dec.{eqb}
 use lib.ListN.{length, getD, length-append, List·getD-append}
 use lib.Seq.{getD-append-seam, ext-getD}
 use Rattle.lists.specs.Tests.{when_then_else_}
-use Rattle.picture.specs.Draw.{Shown, cellDrawn, placeOf, paint, drawn}
+use Rattle.picture.specs.Draw.{Shown, cellDrawn, placeOf, drawn}
 use Rattle.picture.specs.Repaint.{alike, same, changedBelow, changed, painted}
 use Rattle.picture.proofs.Paints.{either, length-paint, paint-at, by-cell, length-cell, length-drawn, drawn-at}
 

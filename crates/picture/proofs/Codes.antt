@@ -1,18 +1,17 @@
 -- What a code draws, source by source, and when two drawings are alike.
-use Prim.Native.Nat.{ℕ, suc, _+_, _*_, _<_, _≤_}
-use mathlib.Core.Path.{_≡_, refl, sym, _∙_, ap}
-use mathlib.Core.Bool.{Bool, true, false, _&&_}
-use mathlib.Core.List.{List, [], _∷_, _++_}
+use Prim.Native.Nat.{ℕ, _+_, _*_, _<_, _≤_}
+use mathlib.Core.Path.{_≡_, sym, _∙_}
+use mathlib.Core.Bool.{Bool, true, _&&_}
+use mathlib.Core.List.{List, []}
 use native.Mathlib.Numerals.{add-one}
 use native.Mathlib.Omega.{arith}
 use borrow.Author.Tests.{lt-ltb, le-ltb, eqb-true}
 use lib.Dec.{eqb}
 use lib.ListN.{length, getD, take}
 use lib.Seq.{take-suc, take-length}
-use Rattle.lists.specs.Tests.{when_then_else_}
 use Rattle.lists.proofs.Laws.{when-true, when-false}
 use Rattle.panel.specs.Glyphs.{eightFrom}
-use Rattle.picture.specs.Draw.{special, font, sourceOf, drawnFrom, lowSix, codeDrawn}
+use Rattle.picture.specs.Draw.{sourceOf, drawnFrom, lowSix, codeDrawn}
 use Rattle.picture.specs.Repaint.{alike}
 use Rattle.picture.proofs.Changes.{both, alike-self}
 

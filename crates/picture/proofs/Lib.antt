@@ -5,7 +5,6 @@ pub mod LineCalls
 pub mod Paints
 pub mod Places
 pub mod Replies
-pub mod Sequences
 pub mod Theorems
 pub mod Turns
 pub mod Worked

@@ -15,7 +15,7 @@ use Rattle.command.specs.declared.answer.Answer.{Answer}
 use Rattle.command.specs.declared.answer.Said.{Said}
 use Rattle.command.specs.Answer.{numbersOf, refusedCall}
 use Rattle.command.specs.Hear.{scannedBy, heardBy, replyBy, Hears}
-use Rattle.command.proofs.Checks.{Fails, Pass, ByNumber, refused-by, accepted-by, either-way, call-passed, call-refused, call-unchanged}
+use Rattle.command.proofs.Checks.{Fails, Pass, ByNumber, refused-by, accepted-by, call-passed, call-refused, call-unchanged}
 use Rattle.framing.specs.declared.packet.Packet.{Packet}
 use Rattle.verdict.specs.declared.verdict.Verdict.{Verdict}
 use Rattle.verdict.specs.declared.verdict.Verdict.the-variants as verdicts

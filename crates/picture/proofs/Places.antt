@@ -1,5 +1,5 @@
 -- Where the bytes of a cell stand: each place belongs to one line of one cell. Nothing else knows the arithmetic of `placeOf`.
-use Prim.Native.Nat.{ℕ, _+_, _*_, _/_, _%_, _<_}
+use Prim.Native.Nat.{ℕ, _/_, _%_, _<_}
 use mathlib.Core.Path.{_≡_}
 use native.Mathlib.Omega.{arith}
 use Rattle.picture.specs.Draw.{placeOf}

@@ -1,4 +1,3 @@
 pub mod LineCalls
 pub mod Outcomes
-pub mod Sequences
 pub mod Theorems

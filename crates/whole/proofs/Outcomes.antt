@@ -34,7 +34,7 @@ abbrev pub number : Answer → ℕ
 number a = numbersOf a .number
 
 -- a packet answers below 10; only a done one changes the body, and only a done or a refused one replies
-abbrev StepLeaves : Body → Stepped → Type 0
+abbrev pub StepLeaves : Body → Stepped → Type 0
 StepLeaves b t = (number (t .answer) < 10) × (number (t .answer) ≢ 3 → t .body ≡ b) × (number (t .answer) ≤ 2 → t .replies ≡ false)
 
 ruled-leaves : (v : Verdict) (b : Body) (packet : Packet) → StepLeaves b (ruled v b packet)
@@ -47,7 +47,7 @@ unfolding stepOf numbersOf
 step-leaves b packet = when-either (StepLeaves b) _ _ _ (λ _. ruled-leaves _ b packet) (λ _. (omega arith, λ _. refl, λ _. refl))
 
 -- the same of a piece that is heard
-abbrev HearLeaves : Panel → Scanned → List ℕ → Type 0
+abbrev pub HearLeaves : Panel → Scanned → List ℕ → Type 0
 HearLeaves p s out =
     (number (heardBy p s out .answer) < 10) × (number (heardBy p s out .answer) ≢ 3 → heardBy p s out .panel .body ≡ p .body)
     × (number (heardBy p s out .answer) ≤ 2 → replyBy p s out ≡ out)
@@ -72,7 +72,7 @@ module _ (p : Panel) (l : Lent) where
   abbrev accepted : Said
   accepted = withListed (heard p l) (length (altered p l))
 
-  heard-leaves : HearLeaves p (scannedBy p (l .piece)) (l .reply)
+  pub heard-leaves : HearLeaves p (scannedBy p (l .piece)) (l .reply)
   heard-leaves = hear-leaves p (scannedBy p (l .piece)) (l .reply) _ refl
 
   -- where the body is as it came, nothing is listed and nothing is painted
@@ -109,10 +109,10 @@ module _ (p : Panel) (l : Lent) where
         )
 
     module _ (below : number (r .answer) < 10) where
-      passed : Pass (lineChecks p l)
+      pub passed : Pass (lineChecks p l)
       passed = call-passed p (lineChecks p l) accepted s refl by-number (omega (arith, same-number))
 
-      said-accepted : s ≡ accepted
+      pub said-accepted : s ≡ accepted
       said-accepted = accepted-by (lineChecks p l) passed _ _
 
       heard-number : number (r .answer) ≡ number (heard p l .answer)

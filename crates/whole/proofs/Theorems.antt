@@ -1,5 +1,5 @@
 -- What holds of the line call over and above the functions' own promises.
-use Prim.Native.Nat.{ℕ, _+_, _<_, _≤_}
+use Prim.Native.Nat.{ℕ, _≤_}
 use mathlib.Core.Path.{_≡_, sym, _∙_}
 use mathlib.Core.List.{List}
 use native.Mathlib.Omega.{arith}
@@ -8,11 +8,7 @@ use Rattle.panel.specs.declared.state.Panel.{Panel}
 use Rattle.register.specs.declared.filing.Record.{Record}
 use Rattle.command.specs.declared.answer.Said.{Said}
 use Rattle.command.specs.Answer.{numbersOf, refusedCall}
-use Rattle.register.specs.Filing.{counts}
-use Rattle.picture.specs.Calls.{PowersOn, Lent}
-use Rattle.picture.proofs.LineCalls.{power-draws}
-use Rattle.whole.specs.Run.{Call, World, Runs, Afresh}
-use Rattle.whole.proofs.Sequences.{still-afresh, adds-up, power-unfiled}
+use Rattle.picture.specs.Calls.{Lent}
 use Rattle.whole.specs.declared.line.Called.{Called}
 use Rattle.whole.specs.Whole.{LineCall, LineCallIn}
 use Rattle.whole.proofs.Outcomes.{nothing-changed, body-kept, unfiled-kept}
@@ -32,22 +28,6 @@ module _ (p : Panel) (l : Lent) (register : List Record) (r : Said) (picture′ 
       → ((r .panel .body ≡ p .body) × (r .listed ≡ 0) × (picture′ ≡ l .picture) × (list′ ≡ l .list)) × ((r .panel .unfiled ≡ p .unfiled) × (reply′ ≡ l .reply) × (register′ ≡ register))
   waiting-or-stray-changes-only h =
       (body-kept p l register r picture′ list′ reply′ register′ called (omega arith) (λ e. absurd (omega arith)), unfiled-kept p l register r picture′ list′ reply′ register′ called (omega arith) h)
-
--- After an accepted power-on and any sequence of line, key and pin calls, refused ones among them, each lent a list, a reply
--- buffer and a register of any size and content but the same font, and the state, picture and register as the last call left
--- them, the picture is the one drawn afresh from the state.
-pub drawn-afresh : (font picture picture′ : List ℕ) (r : Said) (register : List Record) (cs : List Call) (v : World) (n : ℕ) → PowersOn picture font r picture′ → numbersOf (r .answer) .number < 10
-    → Runs font cs (record { panel = r .panel; picture = picture′; register = register }) v n → Afresh font v
-drawn-afresh font picture picture′ r register cs v n m a runs = still-afresh font runs (power-draws picture font r picture′ m a)
-
--- From a power-on and a register whose records are all free, lent back as left, below 4,294,967,296 refusals, the counts plus
--- the unfiled number equal the packets refused.
-pub counts-add-up : (font picture picture′ : List ℕ) (r : Said) (register : List Record) (cs : List Call) (v : World) (n : ℕ) → PowersOn picture font r picture′
-    → counts register ≡ 0 → Runs font cs (record { panel = r .panel; picture = picture′; register = register }) v n → n < 4294967296
-    → counts (v .register) + v .panel .unfiled ≡ n
-counts-add-up font picture picture′ r register cs v n m e runs h =
-    let z = power-unfiled picture font r picture′ m in
-    omega (arith, adds-up font runs (omega arith))
 
 -- For each public function, any two results that its promise allows are equal, the lent buffers and the register included.
 pub line-determined : (p : Panel) (l : Lent) (register : List Record)

@@ -12,16 +12,16 @@ use Rattle.framing.specs.Hold.{holdOf}
 use Rattle.panel.specs.declared.state.Body.{Body}
 use Rattle.panel.specs.declared.state.Panel.{Panel}
 use Rattle.panel.specs.Ranges.{inRanges}
 use Rattle.command.specs.declared.answer.Said.{Said}
 use Rattle.command.specs.Answer.{Check, refusedCall}
 use Rattle.command.specs.Keys.{keyChecks, reportBytes, reports, withBody, keyAccepted, keySaid, keyReply}
 use Rattle.command.specs.Pins.{pinChecks, pinAccepted, pinSaid}
-use Rattle.command.specs.Story.{Other, key, pin, Makes, presses, moves, replied}
+use Rattle.sequences.specs.Story.{Other, key, pin, Answers, presses, moves, replied}
 use Rattle.command.proofs.Checks.{refused-by, accepted-by, either-way, call-in-range}
 use Rattle.command.proofs.InRange.{panel-parts, panel-whole}
 use Rattle.command.proofs.KeyCalls.{accepted-in-range}
 
-pub made-in-range : {c : Other} {p : Panel} {out : List ℕ} {r : Said} {out′ : List ℕ} → Makes c p out r out′ → inRanges p ≡ true → inRanges (r .panel) ≡ true
+pub made-in-range : {c : Other} {p : Panel} {out : List ℕ} {r : Said} {out′ : List ℕ} → Answers c p out r out′ → inRanges p ≡ true → inRanges (r .panel) ≡ true
 unfolding inRanges
 made-in-range (presses {number} {down} {p} {out} {r} pressed) h =
     call-in-range p (keyChecks p number down out) (keyAccepted p number down) r (pressed .0) (λ q. accepted-in-range p number down out q) h
@@ -36,7 +36,7 @@ abbrev pub leftBy : Other → Panel → List ℕ → List ℕ
 leftBy (key number down) p out = keyReply p number down out
 leftBy (pin number high) p out = out
 
-pub made-by : {c : Other} {p : Panel} {out : List ℕ} {r : Said} {out′ : List ℕ} → Makes c p out r out′ → (r ≡ saidBy c p out) × (out′ ≡ leftBy c p out)
+pub made-by : {c : Other} {p : Panel} {out : List ℕ} {r : Said} {out′ : List ℕ} → Answers c p out r out′ → (r ≡ saidBy c p out) × (out′ ≡ leftBy c p out)
 made-by (presses pressed) = pressed
 made-by (moves moved) = (moved, refl)
 

@@ -13,10 +13,10 @@ use Rattle.framing.specs.Packet.{covered, lowFirst, packetBytes, composedLength
 use Rattle.framing.specs.Fcs.{checksum}
 use Rattle.panel.specs.declared.state.Body.{Body}
 use Rattle.carry.specs.Carry.{contentOf}
 use Rattle.command.specs.Step.{stepOf}
 use Rattle.command.specs.Hear.{writtenLength, written}
-use Rattle.command.specs.Story.{Other, Entry, packet, other, replied, Place, after, places}
-use Rattle.command.proofs.OtherCalls.{saidBy, leftBy, standing, blank}
+use Rattle.sequences.specs.Story.{Other, Entry, packet, other, replied, Place, after, places}
+use Rattle.sequences.proofs.OtherCalls.{saidBy, leftBy, standing, blank}
 
 pub data Item : Type 0 where
   found : Packet → Item

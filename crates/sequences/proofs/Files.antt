@@ -1,17 +1,16 @@
--- Sequences of calls: the picture, and what is filed.
-use Prim.Native.Nat.{ℕ, _+_, _<_, _≤_}
+-- What is filed over a sequence of calls.
+use Prim.Native.Nat.{ℕ, _+_, _≤_}
 use mathlib.Core.Path.{_≡_, refl, sym, _∙_, ap}
 use mathlib.Core.Bool.{Bool, true, false}
-use mathlib.Core.List.{List, [], _∷_}
+use mathlib.Core.List.{List}
 use native.Mathlib.Omega.{arith}
 use lib.ListN.{length}
 use Rattle.lists.specs.Tests.{when_then_else_}
-use Rattle.panel.specs.declared.state.Body.{Body}
 use Rattle.panel.specs.declared.state.Panel.{Panel}
 use Rattle.panel.specs.State.{poweredOn}
 use Rattle.register.specs.declared.filing.Record.{Record}
 use Rattle.register.specs.declared.filing.Refusal.{Refusal}
-use Rattle.register.specs.Filing.{Files, filed, filedIf, total, most}
+use Rattle.register.specs.Filing.{Files, filedIf, total, most}
 use Rattle.register.proofs.Theorems.{one-more}
 use Rattle.command.specs.declared.answer.Answer.{Answer}
 use Rattle.command.specs.declared.answer.Said.{Said}
@@ -19,34 +18,10 @@ use Rattle.command.specs.Answer.{Check, decided, refusedCall, filingOf}
 use Rattle.command.specs.Keys.{keyChecks}
 use Rattle.command.specs.Pins.{pinChecks}
 use Rattle.command.proofs.Checks.{either-way, refused-by, accepted-by}
-use Rattle.picture.specs.Draw.{shownBy, drawn}
 use Rattle.picture.specs.Calls.{acceptedCall, powerChecks, PowersOn, Lent, lent, lineChecks, heard, altered, withListed, lineSaid}
-use Rattle.picture.specs.Run as pictures
-use Rattle.picture.proofs.Sequences.{kept-afresh}
 use Rattle.whole.specs.Whole.{filesAfter, LineCall}
-use Rattle.whole.specs.Run.{Call, line, key, pin, World, filesOf, refusedIn, Makes, Runs, done, more, Afresh}
+use Rattle.sequences.specs.Run.{Call, line, key, pin, World, filesOf, refusedIn, Makes, Runs, done, more}
 use Rattle.whole.proofs.Outcomes.{heard-unfiled}
-
--- each call with a register is one without, as far as the picture goes
-abbrev bare : Call → World → pictures.Call
-bare (line piece list reply) w = pictures.line piece list reply (length (w .register))
-bare (key number down reply) w = pictures.key number down reply
-bare (pin number high) w = pictures.pin number high
-
-abbrev seen : World → pictures.World
-seen w = record { panel = w .panel; picture = w .picture }
-
-module _ (font : List ℕ) where
-  bared : (c : Call) (w v : World) (n : ℕ) → Makes font c w v n → pictures.Makes font (bare c w) (seen w) (seen v)
-  bared (line piece list reply) w v n m =
-      let l = lent piece (w .picture) font list reply (length (w .register)) in
-      (lineSaid (w .panel) l, m .1, m .2, (refl, m .3 .1, m .3 .2, m .3 .3), (ap (λ (p : Panel). p .hold) (m .4) ∙ ap (λ (s : Said). s .panel .hold) (m .3 .0), ap (λ (p : Panel). p .body) (m .4) ∙ ap (λ (s : Said). s .panel .body) (m .3 .0)))
-  bared (key number down reply) w v n m = (m .0, m .1, m .2, m .3, (ap (λ (p : Panel). p .hold) (m .5), ap (λ (p : Panel). p .body) (m .5)))
-  bared (pin number high) w v n m = (m .0, m .1, m .2, (ap (λ (p : Panel). p .hold) (m .4), ap (λ (p : Panel). p .body) (m .4)))
-
-  pub still-afresh : {cs : List Call} {w v : World} {n : ℕ} → Runs font cs w v n → Afresh font w → Afresh font v
-  still-afresh done h = h
-  still-afresh (more {c} {u = u} {v = v} n m r) h = still-afresh r (kept-afresh font (pictures.more {c = bare c u} (bared c u v n m) pictures.done) h)
 
 -- one call adds to the total what it refuses
 filed-if : (refused : Bool) (k : Refusal) (f : Files) → total f + (when refused then 1 else 0) ≤ most → total (filedIf refused k f) ≡ total f + (when refused then 1 else 0)
@@ -63,7 +38,7 @@ said-unfiled : (p : Panel) (l : Lent) → lineSaid p l .panel .unfiled ≡ p .un
 said-unfiled p l = unfiled-stays p (lineChecks p l) (withListed (heard p l) (length (altered p l))) (lineSaid p l) refl (heard-unfiled p l)
 
 -- the files of a world after a line call
-line-files : (p : Panel) (l : Lent) (register : List Record) (r : Said) (picture′ list′ reply′ : List ℕ) (register′ : List Record) → LineCall p l register r picture′ list′ reply′ register′
+pub line-files : (p : Panel) (l : Lent) (register : List Record) (r : Said) (picture′ list′ reply′ : List ℕ) (register′ : List Record) → LineCall p l register r picture′ list′ reply′ register′
     → record { register = register′; unfiled = r .panel .unfiled } ≡ filedIf (filingOf (r .answer) .refused) (filingOf (r .answer) .key) (record { register = register; unfiled = p .unfiled })
 line-files p l register r picture′ list′ reply′ register′ m =
     let a : r .answer ≡ lineSaid p l .answer = ap (λ (s : Said). s .answer) (m .0) in
