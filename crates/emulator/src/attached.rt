@@ -4,7 +4,7 @@ use panel::state::Panel;
 use register::filing::Record;
 
 // `over`: the input has ended, a call was refused by number, or a reply could not be written. `waiting`: the last call found
-// no packet. `took`: the bytes that it took.
+// no packet. `took`: the bytes that it took. `glass`: the glass is drawn.
 pub struct Attached {
     pub panel: Panel,
     pub register: [Record; 64],
@@ -12,13 +12,17 @@ pub struct Attached {
     pub over: bool,
     pub waiting: bool,
     pub took: usize,
+    pub glass: bool,
 }
 
 // From power-on, with an empty register.
-pub fn start(font: &[u8]) -> Attached {
+pub fn start(font: &[u8], glass: bool) -> Attached {
     let mut picture = [0u8; 640];
     let s = picture::calls::power_on(&mut picture, font);
     let panel = s.panel;
+    if glass {
+        crate::glass::draw_first(&picture);
+    }
     Attached {
         panel,
         register: register::run::empty(),
@@ -26,6 +30,7 @@ pub fn start(font: &[u8]) -> Attached {
         over: false,
         waiting: true,
         took: 0,
+        glass,
     }
 }
 
@@ -64,6 +69,9 @@ fn call(a: Attached, piece: &[u8], font: &[u8]) -> Attached {
     let answer = s.answer;
     let n = command::answer::told(answer);
     let sent = send(&reply, s.reply);
+    if a.glass & (0 < s.listed) {
+        crate::glass::draw(&picture, &list, s.listed);
+    }
     let panel = s.panel;
     let register = c.register;
     Attached {
@@ -73,6 +81,7 @@ fn call(a: Attached, piece: &[u8], font: &[u8]) -> Attached {
         over: (10 <= n.number) | !sent,
         waiting: n.number == 1,
         took: s.taken,
+        glass: a.glass,
     }
 }
 

@@ -1,8 +1,11 @@
-// The panel on standard input and output: host bytes in, reply packets out, so that a real host can be attached.
+// The panel on standard input and output: host bytes in, reply packets out, so that a real host can be attached. With the
+// argument `glass` it also draws the glass on standard error.
 mod attached;
 mod font;
+mod glass;
 
 use attached::Attached;
+use libc::STDERR_FILENO;
 use libc::STDIN_FILENO;
 
 // Reads once and hears what came: a read answers with what has arrived and does not wait for a full buffer. A failed read is
@@ -31,7 +34,28 @@ fn read_all(start: Attached, font: &[u8]) {
     }
 }
 
-fn main() {
+fn run(glass: bool) {
     let font = font::letters();
-    read_all(attached::start(&font), &font);
+    read_all(attached::start(&font, glass), &font);
+}
+
+fn is_glass(word: &[u8]) -> bool {
+    let front = (lists::at(word, 0) == b'g')
+        & (lists::at(word, 1) == b'l')
+        & (lists::at(word, 2) == b'a');
+    front & (lists::at(word, 3) == b's') & (lists::at(word, 4) == b's') & (word.len() == 5)
+}
+
+fn main() {
+    let mut word = [0u8; 8];
+    let n = os::arg(1, &mut word);
+    if os::arg_count() < 2 {
+        run(false);
+        return;
+    }
+    if is_glass(&word[..n]) {
+        run(true);
+        return;
+    }
+    io::write_all(STDERR_FILENO, b"emulator: the only argument is glass\n");
 }
