@@ -35,7 +35,7 @@ fn read_all(start: Attached, font: &[u8]) {
 }
 
 fn run(glass: bool) {
-    let font = font::letters();
+    let font = font::with_block();
     read_all(attached::start(&font, glass), &font);
 }
 
