@@ -48,9 +48,9 @@ step-in-range b p t (done l v) i =
     rw e (effect-in-range (p .kind) (contentOf p) b v i)
 step-in-range b p t (refused v) i = i
 
-module _ (p : Panel) (piece out : List ℕ) (r : Said) (out′ : List ℕ) (hears : Hears p piece out r out′) where
+module _ (p : Panel) (piece out : List ℕ) (r : Said) (out′ : List ℕ) (hears : Hears p (scannedBy p piece) out r out′) where
   pub hear-in-range : inRanges p ≡ true → length (p .hold .bytes) ≤ 25 → inRanges (r .panel) ≡ true
-  hear-in-range e n = go (see p piece out r out′ hears)
+  hear-in-range e n = go (see p (scannedBy p piece) out r out′ hears)
     where
       count : scannedBy p piece .hold .count ≤ 25
       count = held-at-most-25 (p .hold) piece (scannedBy p piece) refl n
@@ -66,7 +66,7 @@ module _ (p : Panel) (piece out : List ℕ) (r : Said) (out′ : List ℕ) (hear
 
   pub hear-silent : numbersOf (r .answer) .number ≤ 2 → Silent p out r out′
   unfolding writtenLength written when_then_else_ numbersOf
-  hear-silent a = go a (see p piece out r out′ hears)
+  hear-silent a = go a (see p (scannedBy p piece) out r out′ hears)
     where
       go : {r : Said} {out′ : List ℕ} → numbersOf (r .answer) .number ≤ 2 → Heard p (scannedBy p piece) out r out′ → Silent p out r out′
       go a (nothing f) = (refl, refl, refl)
@@ -76,7 +76,7 @@ module _ (p : Panel) (piece out : List ℕ) (r : Said) (out′ : List ℕ) (hear
 
   pub hear-refused : {command : ℕ} {reason : Reason} {place : ℕ} → r .answer ≡ Refused command reason place → RepliesError command p out r out′
   unfolding writtenLength written when_then_else_ composedLength composed
-  hear-refused {command} {reason} {place} a = go a (see p piece out r out′ hears)
+  hear-refused {command} {reason} {place} a = go a (see p (scannedBy p piece) out r out′ hears)
     where
       go : {r : Said} {out′ : List ℕ} → r .answer ≡ Refused command reason place → Heard p (scannedBy p piece) out r out′ → RepliesError command p out r out′
       go a (nothing f) = let z : _≡_ {A = ℕ} 0 1 = cc in absurd (omega arith)

@@ -19,7 +19,7 @@ use Rattle.command.specs.declared.answer.Answer.the-variants.{Waiting, D
 use Rattle.command.specs.declared.answer.Said.{Said}
 use Rattle.command.specs.declared.step.Stepped.{Stepped}
 use Rattle.command.specs.Step.{strayed, ruled, stepOf}
-use Rattle.command.specs.Hear.{scannedBy, writtenLength, written, saidOf, heardBy, replyBy, Hears}
+use Rattle.command.specs.Hear.{writtenLength, written, saidOf, heardBy, replyBy, Hears}
 use Rattle.command.proofs.Hearing.{nothing-heard, packet-heard}
 
 -- a packet is a stray, a command done or a command refused
@@ -56,5 +56,5 @@ module _ (p : Panel) (s : Scanned) (out : List ℕ) where
           let h = packet-heard p s out t _ _ f refl refl refl in
           rw (← h .0, ← h .1) (packet f refl (steps (p .body) (s .packet)))
 
-pub see : (p : Panel) (piece out : List ℕ) (r : Said) (out′ : List ℕ) → Hears p piece out r out′ → Heard p (scannedBy p piece) out r out′
-see p piece out r out′ h = rw (h .0, h .1) (heard-by p (scannedBy p piece) out)
+pub see : (p : Panel) (s : Scanned) (out : List ℕ) (r : Said) (out′ : List ℕ) → Hears p s out r out′ → Heard p s out r out′
+see p s out r out′ h = rw (h .0, h .1) (heard-by p s out)

@@ -8,6 +8,7 @@ use lib.ListN.{length}
 use Rattle.lists.specs.Promise.{Determined}
 use Rattle.lists.specs.Runs.{front}
 use Rattle.lists.proofs.Theorems.{one, and}
+use Rattle.framing.specs.declared.scan.Scanned.{Scanned}
 use Rattle.framing.specs.Packet.{packetBytes}
 use Rattle.verdict.specs.declared.verdict.Reason.{Reason}
 use Rattle.verdict.specs.declared.verdict.Verdict.the-variants.{Allowed}
@@ -21,7 +22,7 @@ use Rattle.command.specs.declared.answer.Answer.{Answer}
 use Rattle.command.specs.declared.answer.Answer.the-variants.{Waiting, Stray, Refused}
 use Rattle.command.specs.declared.answer.Said.{Said}
 use Rattle.command.specs.Answer.{numbersOf, refusedCall, Tells, Hands, Refuses}
-use Rattle.command.specs.Hear.{Hears}
+use Rattle.command.specs.Hear.{scannedBy, Hears}
 use Rattle.command.specs.Keys.{isOn, keyChecks, keyAccepted, Presses}
 use Rattle.command.specs.Pins.{pinChecks, pinAccepted, Moves}
 use Rattle.command.proofs.Checks.{call-in-range, call-refused, call-unchanged, refused-by}
@@ -34,7 +35,7 @@ use Rattle.command.proofs.KeyCalls.{accepted-in-range, key-happened}
 pub effect-stays-in-range : (code : ℕ) (content : List ℕ) (b : Body) → verdictOf code content ≡ Allowed → BodyInRange b → BodyInRange (effect code content b)
 effect-stays-in-range code content b v h = effect-in-range code content b v h
 
-module _ (p : Panel) (piece reply : List ℕ) (r : Said) (reply′ : List ℕ) (heard : Hears p piece reply r reply′) where
+module _ (p : Panel) (piece reply : List ℕ) (r : Said) (reply′ : List ℕ) (heard : Hears p (scannedBy p piece) reply r reply′) where
   -- A call on the line takes a state in its ranges to one in its ranges: the hold's array has 25 bytes, whatever its count says.
   pub hear-stays-in-range : inRanges p ≡ true → length (p .hold .bytes) ≤ 25 → inRanges (r .panel) ≡ true
   hear-stays-in-range h n = hear-in-range p piece reply r reply′ heard h n
@@ -114,8 +115,8 @@ to-file-determined answer = one _
 pub refused-call-determined : (p : Panel) (answer : Answer) → Determined (Refuses p answer)
 refused-call-determined p answer = one _
 
-pub hear-determined : (p : Panel) (piece reply : List ℕ) → Determined (λ (x : Said × List ℕ). Hears p piece reply (x .0) (x .1))
-hear-determined p piece reply = and (one _) (one _)
+pub hear-determined : (p : Panel) (s : Scanned) (reply : List ℕ) → Determined (λ (x : Said × List ℕ). Hears p s reply (x .0) (x .1))
+hear-determined p s reply = and (one _) (one _)
 
 pub key-determined : (p : Panel) (number : ℕ) (down : Bool) (reply : List ℕ) → Determined (λ (x : Said × List ℕ). Presses p number down reply (x .0) (x .1))
 key-determined p number down reply = and (one _) (one _)

@@ -53,5 +53,5 @@ replyBy p s out =
     when s .found then (let t = stepOf (p .body) (s .packet) in written (t .replies) (t .reply) out) else out
 
 -- what `hear` promises of its result and of the reply buffer
-abbrev pub Hears : Panel → List ℕ → List ℕ → Said → List ℕ → Type 0
-Hears p piece out r out′ = (r ≡ heardBy p (scannedBy p piece) out) × (out′ ≡ replyBy p (scannedBy p piece) out)
+abbrev pub Hears : Panel → Scanned → List ℕ → Said → List ℕ → Type 0
+Hears p s out r out′ = (r ≡ heardBy p s out) × (out′ ≡ replyBy p s out)

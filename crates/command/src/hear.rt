@@ -1,16 +1,16 @@
-// A piece of the line heard: the packet found in it, if any, carried out or refused, and its reply written.
+// What a scan of the line found, heard: the packet, if any, carried out or refused, and its reply written.
 ghost use mathlib.Core.Path.{_≡_};
 ghost use Rattle.command.specs.Hear.{writtenLength, written, Hears};
 use crate::answer::Answer;
 use crate::answer::Said;
 use framing::packet::Packet;
+use framing::scan::Scanned;
 use panel::state::Panel;
 
 // The unfiled number is left as it is: what a refusal does to it is the register's to say.
-pub fn hear(p: Panel, piece: &[u8], reply: &mut [u8]) -> Said
-    ensures { λ r. ⌜ Hears p (now (piece .entry)) (now (reply .entry)) r (now (reply .exit)) ⌝ }
+pub fn hear(p: Panel, s: Scanned, reply: &mut [u8]) -> Said
+    ensures { λ r. ⌜ Hears p s (now (reply .entry)) r (now (reply .exit)) ⌝ }
 {
-    let s = framing::scan::scan(p.hold, piece);
     let mut q = p;
     let hold = s.hold;
     q.hold = hold;

@@ -1,6 +1,7 @@
 -- How a line call and a power-on come out: refused by the first check that fails, or accepted.
 use Prim.Native.Nat.{ℕ, _<_, _≤_}
 use mathlib.Core.Path.{_≡_, refl, sym, _∙_, ap}
+use mathlib.Core.Bool.{true, false, true≢false}
 use mathlib.Core.List.{List}
 use mathlib.Core.Logic.{_≢_, _↔_}
 use native.Mathlib.Omega.{arith}
@@ -13,10 +14,11 @@ use Rattle.panel.specs.declared.state.Panel.{Panel}
 use Rattle.panel.specs.State.{poweredOn}
 use Rattle.command.specs.declared.answer.Answer.{Answer}
 use Rattle.command.specs.declared.answer.Said.{Said}
-use Rattle.command.specs.Answer.{numbersOf, refusedCall}
+use Rattle.command.specs.Answer.{numbersOf, Check, decided, refusedCall}
 use Rattle.command.specs.Hear.{scannedBy, heardBy, replyBy, Hears}
-use Rattle.command.proofs.Checks.{Fails, Pass, ByNumber, refused-by, accepted-by, call-passed, call-refused, call-unchanged}
+use Rattle.command.proofs.Checks.{Fails, Pass, ByNumber, refused-by, accepted-by, either-way, call-passed, call-refused, call-unchanged}
 use Rattle.framing.specs.declared.packet.Packet.{Packet}
+use Rattle.framing.specs.declared.scan.Scanned.{Scanned}
 use Rattle.verdict.specs.declared.verdict.Verdict.{Verdict}
 use Rattle.verdict.specs.declared.verdict.Verdict.the-variants as verdicts
 use Rattle.verdict.specs.Verdict.{verdictOf}
@@ -29,21 +31,54 @@ use Rattle.picture.specs.Repaint.{painted, ListedIn, Repaints}
 use Rattle.picture.proofs.Changes.{list-is-the-change, listed-differs, no-other-byte}
 use Rattle.picture.proofs.Fronts.{front-own, front-behind}
 use Rattle.picture.proofs.Replies.{heard-behind}
-use Rattle.picture.specs.Calls.{acceptedCall, powerChecks, PowersOn, Lent, lineChecks, heard, shownBefore, shownAfter, altered, withListed, Lines}
+use Rattle.picture.specs.declared.calls.Checked.{Checked}
+use Rattle.picture.specs.Calls.{turnedAway, letThrough, onlyPainting, CarriesOn, acceptedCall, powerChecks, PowersOn, Lent, lineChecks, heard, shownBefore, shownAfter, altered, withListed, Lines}
 
 module _ (p : Panel) (l : Lent) where
   pub line-refused : {a : Answer} {r : Said} → Fails (lineChecks p l) a → r ≡ refusedCall p a → Lines p l r (l .picture) (l .list) (l .reply)
   line-refused f e = (e ∙ sym (refused-by f _ _), sym (refused-by f _ _), sym (refused-by f _ _), sym (refused-by f _ _))
 
-  pub line-accepted : (h : Said) (n : ℕ) (picture′ list′ reply′ : List ℕ) → Pass (lineChecks p l) → Hears p (l .piece) (l .reply) h reply′
-      → Repaints (shownBefore p) (shownBy (h .panel .body .live)) (l .font) (l .picture) (l .list) n picture′ list′ → Lines p l (withListed h n) picture′ list′ reply′
-  line-accepted h n picture′ list′ reply′ q e d =
-      let g = rw (e .0) at d in (
-        rw (g .0, e .0) (sym (accepted-by (lineChecks p l) q _ _)),
-        g .1 ∙ sym (accepted-by (lineChecks p l) q _ _),
-        g .2 ∙ sym (accepted-by (lineChecks p l) q _ _),
-        e .1 ∙ sym (accepted-by (lineChecks p l) q _ _),
+  pub line-accepted : (r : Said) (picture′ list′ reply′ : List ℕ) → Pass (lineChecks p l)
+      → CarriesOn p (scannedBy p (l .piece)) (l .picture) (l .font) (l .list) (l .reply) r picture′ list′ reply′ → Lines p l r picture′ list′ reply′
+  line-accepted r picture′ list′ reply′ q e =
+      let few : Pass (onlyPainting (l .picture) (l .list)) = (q .1 .1 .0, (q .1 .1 .1 .1 .0, tt)) in (
+        e .0 ∙ accepted-by (onlyPainting (l .picture) (l .list)) few _ _ ∙ sym (accepted-by (lineChecks p l) q _ _),
+        e .1 ∙ accepted-by (onlyPainting (l .picture) (l .list)) few _ _ ∙ sym (accepted-by (lineChecks p l) q _ _),
+        e .2 ∙ accepted-by (onlyPainting (l .picture) (l .list)) few _ _ ∙ sym (accepted-by (lineChecks p l) q _ _),
+        e .3 ∙ accepted-by (onlyPainting (l .picture) (l .list)) few _ _ ∙ sym (accepted-by (lineChecks p l) q _ _),
       )
+
+module _ (p : Panel) (s : Scanned) (picture font list reply : List ℕ) where
+  pub carried-refused : {a : Answer} {r : Said} → Fails (onlyPainting picture list) a → r ≡ refusedCall p a → CarriesOn p s picture font list reply r picture list reply
+  carried-refused f e = (e ∙ sym (refused-by f _ _), sym (refused-by f _ _), sym (refused-by f _ _), sym (refused-by f _ _))
+
+  pub carried-accepted : (h : Said) (n : ℕ) (picture′ list′ reply′ : List ℕ) → Pass (onlyPainting picture list) → Hears p s reply h reply′
+      → Repaints (shownBefore p) (shownBy (h .panel .body .live)) font picture list n picture′ list′ → CarriesOn p s picture font list reply (withListed h n) picture′ list′ reply′
+  carried-accepted h n picture′ list′ reply′ q e d =
+      let g = rw (e .0) at d in (
+        rw (g .0, e .0) (sym (accepted-by (onlyPainting picture list) q _ _)),
+        g .1 ∙ sym (accepted-by (onlyPainting picture list) q _ _),
+        g .2 ∙ sym (accepted-by (onlyPainting picture list) q _ _),
+        e .1 ∙ sym (accepted-by (onlyPainting picture list) q _ _),
+      )
+
+-- what comes of checks: the call is turned away by the first that fails, or all pass
+pub turned-away : (checks : List Check) → decided checks turnedAway letThrough .passes ≡ false → Fails checks (decided checks turnedAway letThrough .answer)
+turned-away checks e =
+    either-way checks (λ a f. rw (refused-by f turnedAway letThrough) f)
+    (λ q. absurd (true≢false (sym (ap (λ (c : Checked). c .passes) (accepted-by checks q turnedAway letThrough)) ∙ e)))
+
+pub let-through : (checks : List Check) → decided checks turnedAway letThrough .passes ≡ true → Pass checks
+let-through checks e =
+    either-way checks (λ a f. absurd (true≢false (sym e ∙ ap (λ (c : Checked). c .passes) (refused-by f turnedAway letThrough)))) (λ q. q)
+
+module _ (p : Panel) (l : Lent) (k : Checked) (checked : k ≡ decided (lineChecks p l) turnedAway letThrough) where
+  pub turned-away-line : k .passes ≡ false → {r : Said} → r ≡ refusedCall p (k .answer) → Lines p l r (l .picture) (l .list) (l .reply)
+  turned-away-line e s =
+      line-refused p l (turned-away (lineChecks p l) (sym (ap (λ (c : Checked). c .passes) checked) ∙ e)) (s ∙ ap (λ (c : Checked). refusedCall p (c .answer)) checked)
+
+  pub let-through-line : k .passes ≡ true → Pass (lineChecks p l)
+  let-through-line e = let-through (lineChecks p l) (sym (ap (λ (c : Checked). c .passes) checked) ∙ e)
 
 module _ (picture font : List ℕ) where
   pub power-refused : {a : Answer} {p : Panel} {r : Said} → Fails (powerChecks picture font) a → p ≡ poweredOn → r ≡ refusedCall p a → PowersOn picture font r picture

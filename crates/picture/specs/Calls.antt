@@ -1,18 +1,21 @@
 -- What power-on and a line call promise.
 use Prim.Native.Nat.{ℕ}
 use mathlib.Core.Path.{_≡_}
+use mathlib.Core.Bool.{Bool, true, false}
 use mathlib.Core.List.{List, [], _∷_}
 use lib.ListN.{length}
 use Rattle.lists.specs.Tests.{_≤?_, _=?_}
 use Rattle.lists.specs.Runs.{front}
+use Rattle.framing.specs.declared.scan.Scanned.{Scanned}
 use Rattle.panel.specs.declared.state.Panel.{Panel}
 use Rattle.panel.specs.State.{poweredOn}
 use Rattle.panel.specs.Ranges.{inRanges}
 use Rattle.command.specs.declared.answer.Answer.{Answer}
-use Rattle.command.specs.declared.answer.Answer.the-variants.{Done, StateOutOfRange, PieceTooLong, PictureSize, FontSize, ListSize, ReplySize, RegisterSize}
+use Rattle.command.specs.declared.answer.Answer.the-variants.{Waiting, Done, StateOutOfRange, PieceTooLong, PictureSize, FontSize, ListSize, ReplySize, RegisterSize}
 use Rattle.command.specs.declared.answer.Said.{Said}
 use Rattle.command.specs.Answer.{Check, check, decided, refusedCall}
 use Rattle.command.specs.Hear.{scannedBy, heardBy, replyBy}
+use Rattle.picture.specs.declared.calls.Checked.{Checked}
 use Rattle.picture.specs.Draw.{Shown, shownBy, drawn}
 use Rattle.picture.specs.Repaint.{changed, painted}
 
@@ -52,36 +55,69 @@ abbrev pub lent : List ℕ → List ℕ → List ℕ → List ℕ → List ℕ �
 lent piece picture font list reply records =
     record { piece = piece; picture = picture; font = font; list = list; reply = reply; records = records }
 
--- "Line calls check 10 to 16"
+-- "Line calls check 10 to 16": whether the state is in its ranges, and the sizes of what is lent
+abbrev pub checksOf : Bool → ℕ → ℕ → ℕ → ℕ → ℕ → ℕ → List Check
+checksOf inRange piece picture font list reply records =
+    check inRange StateOutOfRange
+    ∷ check (piece ≤? 4096) PieceTooLong
+    ∷ check (picture =? 640) PictureSize
+    ∷ check (font =? 2048) FontSize
+    ∷ check (list =? 80) ListSize
+    ∷ check (reply =? 26) ReplySize
+    ∷ check (records =? 64) RegisterSize
+    ∷ []
+
 abbrev pub lineChecks : Panel → Lent → List Check
 lineChecks p l =
-    check (inRanges p) StateOutOfRange
-    ∷ check (length (l .piece) ≤? 4096) PieceTooLong
-    ∷ sized (l .picture) 640 PictureSize
-    ∷ sized (l .font) 2048 FontSize
-    ∷ sized (l .list) 80 ListSize
-    ∷ sized (l .reply) 26 ReplySize
-    ∷ check (l .records =? 64) RegisterSize
-    ∷ []
+    checksOf (inRanges p) (length (l .piece)) (length (l .picture)) (length (l .font)) (length (l .list)) (length (l .reply)) (l .records)
+
+-- a call is turned away with the answer of the first check that fails, or let through
+abbrev pub turnedAway : Answer → Checked
+turnedAway a = record { passes = false; answer = a }
+
+abbrev pub letThrough : Checked
+letThrough = record { passes = true; answer = Waiting }
+
+-- what `line_checked` promises
+abbrev pub ChecksLine : Bool → ℕ → ℕ → ℕ → ℕ → ℕ → ℕ → Checked → Type 0
+ChecksLine inRange piece picture font list reply records r = r ≡ decided (checksOf inRange piece picture font list reply records) turnedAway letThrough
+
+abbrev pub withListed : Said → ℕ → Said
+withListed s n =
+    record { panel = s .panel; answer = s .answer; taken = s .taken; dropped = s .dropped; checked = s .checked; reply = s .reply; listed = n }
+
+-- what is heard of what a scan found, and the cells whose drawing it alters
+abbrev pub shownBefore : Panel → Shown
+shownBefore p = shownBy (p .body .live)
+
+abbrev pub shownThen : Panel → Scanned → List ℕ → Shown
+shownThen p s reply = shownBy (heardBy p s reply .panel .body .live)
+
+abbrev pub alteredBy : Panel → Scanned → List ℕ → List ℕ → List ℕ
+alteredBy p s font reply = changed (shownBefore p) (shownThen p s reply) font
+
+-- the two checks that painting needs
+abbrev pub onlyPainting : List ℕ → List ℕ → List Check
+onlyPainting picture list = sized picture 640 PictureSize ∷ sized list 80 ListSize ∷ []
+
+-- what `carried_on` promises of its result and of the three lent buffers
+abbrev pub CarriesOn : Panel → Scanned → List ℕ → List ℕ → List ℕ → List ℕ → Said → List ℕ → List ℕ → List ℕ → Type 0
+CarriesOn p s picture font list reply r picture′ list′ reply′ =
+    (r ≡ decided (onlyPainting picture list) (refusedCall p) (withListed (heardBy p s reply) (length (alteredBy p s font reply))))
+    × (picture′ ≡ decided (onlyPainting picture list) (λ a. picture) (painted (shownBefore p) (shownThen p s reply) font picture))
+    × (list′ ≡ decided (onlyPainting picture list) (λ a. list) (front (alteredBy p s font reply) list))
+    × (reply′ ≡ decided (onlyPainting picture list) (λ a. reply) (replyBy p s reply))
 
 -- the call once accepted, but for the list: what the panel hears of the piece
 abbrev pub heard : Panel → Lent → Said
 heard p l = heardBy p (scannedBy p (l .piece)) (l .reply)
 
--- what is shown before and after
-abbrev pub shownBefore : Panel → Shown
-shownBefore p = shownBy (p .body .live)
-
+-- what is shown after, and the cells whose drawing the call alters
 abbrev pub shownAfter : Panel → Lent → Shown
-shownAfter p l = shownBy (heard p l .panel .body .live)
+shownAfter p l = shownThen p (scannedBy p (l .piece)) (l .reply)
 
--- the cells whose drawing the call alters
 abbrev pub altered : Panel → Lent → List ℕ
-altered p l = changed (shownBefore p) (shownAfter p l) (l .font)
-
-abbrev pub withListed : Said → ℕ → Said
-withListed s n =
-    record { panel = s .panel; answer = s .answer; taken = s .taken; dropped = s .dropped; checked = s .checked; reply = s .reply; listed = n }
+altered p l = alteredBy p (scannedBy p (l .piece)) (l .font) (l .reply)
 
 abbrev pub lineSaid : Panel → Lent → Said
 lineSaid p l = decided (lineChecks p l) (refusedCall p) (withListed (heard p l) (length (altered p l)))

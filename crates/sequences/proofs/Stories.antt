@@ -121,7 +121,7 @@ module _ (font : List ℕ) (w v : World) (piece out : List ℕ) (r : Said) (out�
   replied-as-heard = hears .called .3 ∙ accepted-by (lineChecks p l) checks-passed _ _
 
   seen : Heard p (scannedBy p piece) out h out′
-  seen = heard.see p piece out h out′ (refl, replied-as-heard)
+  seen = heard.see p (scannedBy p piece) out h out′ (refl, replied-as-heard)
 
   sized : length out ≡ 26
   sized = eqb-true _ _ (checks-passed .1 .1 .1 .1 .1 .0)
