@@ -1,14 +1,19 @@
 -- What holds of the line call over and above the functions' own promises.
-use Prim.Native.Nat.{ℕ, _≤_}
-use mathlib.Core.Path.{_≡_, sym, _∙_}
+use Prim.Native.Nat.{ℕ, _<_, _≤_}
+use mathlib.Core.Path.{_≡_, refl, sym, _∙_}
+use mathlib.Core.Logic.{_≢_, _↔_}
 use mathlib.Core.List.{List}
 use native.Mathlib.Omega.{arith}
+use lib.ListN.{getD}
 use Rattle.lists.specs.Promise.{Determined}
 use Rattle.panel.specs.declared.state.Panel.{Panel}
 use Rattle.register.specs.declared.filing.Record.{Record}
 use Rattle.command.specs.declared.answer.Said.{Said}
 use Rattle.command.specs.Answer.{numbersOf, refusedCall}
-use Rattle.picture.specs.Calls.{Lent}
+use Rattle.picture.specs.Draw.{cellDrawn, shownBy, placeOf}
+use Rattle.picture.specs.Repaint.{ListedIn}
+use Rattle.picture.specs.Calls.{Lent, shownBefore, lineSaid, Lines}
+use Rattle.picture.proofs.Theorems as pictures
 use Rattle.whole.specs.declared.line.Called.{Called}
 use Rattle.whole.specs.Whole.{LineCall, LineCallIn}
 use Rattle.whole.proofs.Outcomes.{nothing-changed, body-kept, unfiled-kept}
@@ -28,6 +33,33 @@ module _ (p : Panel) (l : Lent) (register : List Record) (r : Said) (picture′ 
       → ((r .panel .body ≡ p .body) × (r .listed ≡ 0) × (picture′ ≡ l .picture) × (list′ ≡ l .list)) × ((r .panel .unfiled ≡ p .unfiled) × (reply′ ≡ l .reply) × (register′ ≡ register))
   waiting-or-stray-changes-only h =
       (body-kept p l register r picture′ list′ reply′ register′ called (omega arith) (λ e. absurd (omega arith)), unfiled-kept p l register r picture′ list′ reply′ register′ called (omega arith) h)
+
+  -- As to the list, the picture and the reply, the call is the one without a register.
+  without : Lines p l (lineSaid p l) picture′ list′ reply′
+  without = (refl, called .1, called .2, called .3)
+
+  module _ (accepted : numbersOf (r .answer) .number < 10) where
+    below : numbersOf (lineSaid p l .answer) .number < 10
+    below = rw (called .0) at accepted
+
+    -- An accepted call's list is rising, so that each cell stands in it once,
+    pub list-rises : (i j : ℕ) → i < j → j < r .listed → getD list′ i 0 < getD list′ j 0
+    list-rises i j h g = pictures.list-rises p l (lineSaid p l) picture′ list′ reply′ without below i j h (rw (called .0) at g)
+
+    -- and it holds exactly the cells whose drawing before and after the call differ.
+    pub list-is-the-change : (cell : ℕ) → cell < 80 → ListedIn list′ (r .listed) cell ↔ (cellDrawn (shownBefore p) (l .font) cell ≢ cellDrawn (shownBy (r .panel .body .live)) (l .font) cell)
+    list-is-the-change cell h = rw (called .0) (pictures.list-is-the-change p l (lineSaid p l) picture′ list′ reply′ without below cell h)
+
+    -- Bytes of cells that are not listed are as they came,
+    pub no-other-byte : (cell k : ℕ) → cell < 80 → k < 8 → (ListedIn list′ (r .listed) cell → ⊥) → getD picture′ (placeOf cell k) 0 ≡ getD (l .picture) (placeOf cell k) 0
+    no-other-byte cell k h g n = pictures.no-other-byte p l (lineSaid p l) picture′ list′ reply′ without below cell k h g (rw (called .0) at n)
+
+    -- and so are those of the list behind its end and of the reply behind its end.
+    pub list-behind : (i : ℕ) → r .listed ≤ i → getD list′ i 0 ≡ getD (l .list) i 0
+    list-behind i h = pictures.list-behind p l (lineSaid p l) picture′ list′ reply′ without below i (rw (called .0) at h)
+
+    pub reply-behind : (i : ℕ) → r .reply ≤ i → getD reply′ i 0 ≡ getD (l .reply) i 0
+    reply-behind i h = pictures.reply-behind p l (lineSaid p l) picture′ list′ reply′ without below i (rw (called .0) at h)
 
 -- For each public function, any two results that its promise allows are equal, the lent buffers and the register included.
 pub line-determined : (p : Panel) (l : Lent) (register : List Record)
