@@ -41,7 +41,7 @@ abbrev pub ByNumber : List Check → Type 0
 ByNumber [] = Unit
 ByNumber (check _ a ∷ checks) = (10 ≤ numbersOf a .number) × ByNumber checks
 
-answers-by-number : {checks : List Check} {a : Answer} → ByNumber checks → Fails checks a → 10 ≤ numbersOf a .number
+pub answers-by-number : {checks : List Check} {a : Answer} → ByNumber checks → Fails checks a → 10 ≤ numbersOf a .number
 answers-by-number n (here e) = n .0
 answers-by-number n (later e f) = answers-by-number (n .1) f
 

@@ -90,7 +90,7 @@ module _ (picture font : List ℕ) where
       (e ∙ rw s (sym (accepted-by (powerChecks picture font) q _ _)), d ∙ rw s (sym (accepted-by (powerChecks picture font) q _ _)))
 
 -- each answer of the checks is a number of 10 or more
-by-number : (p : Panel) (l : Lent) → ByNumber (lineChecks p l)
+pub by-number : (p : Panel) (l : Lent) → ByNumber (lineChecks p l)
 unfolding numbersOf
 by-number p l = (lit≤ tt, (lit≤ tt, (lit≤ tt, (lit≤ tt, (lit≤ tt, (lit≤ tt, (lit≤ tt, tt)))))))
 

@@ -1,0 +1,5 @@
+pub mod Words
+pub mod Settings
+pub mod State
+pub mod Faults
+pub mod Says

@@ -1,0 +1,36 @@
+-- What a call says, as 16 bytes: the table "What the call says" of include/naupelys.h.
+use Prim.Native.Nat.{ℕ, _/_, _%_}
+use mathlib.Core.Path.{_≡_}
+use mathlib.Core.List.{List, [], _∷_, _++_}
+use Rattle.command.specs.declared.answer.Numbers.{Numbers}
+use Rattle.command.specs.declared.answer.Said.{Said}
+use Rattle.command.specs.Answer.{numbersOf}
+use Rattle.layout.specs.Words.{wordBytes}
+
+unfoldable pub saidBytes : Numbers → ℕ → ℕ → ℕ → ℕ → ℕ → List ℕ
+saidBytes n taken dropped checked reply listed =
+    n .number
+    ∷ n .command
+    ∷ n .reason
+    ∷ n .place
+    ∷ taken % 256
+    ∷ taken / 256 % 256
+    ∷ dropped % 256
+    ∷ dropped / 256 % 256
+    ∷ checked % 256
+    ∷ checked / 256 % 256
+    ∷ checked / 65536 % 256
+    ∷ checked / 16777216 % 256
+    ∷ reply % 256
+    ∷ listed % 256
+    ∷ 0
+    ∷ 0
+    ∷ []
+
+-- the same of what a call returns
+abbrev pub bytesSaid : Said → List ℕ
+bytesSaid s = saidBytes (numbersOf (s .answer)) (s .taken) (s .dropped) (s .checked) (s .reply) (s .listed)
+
+-- what `write` promises of the 16 bytes, whatever they were
+abbrev pub Says : Numbers → ℕ → ℕ → ℕ → ℕ → ℕ → List ℕ → Type 0
+Says n taken dropped checked reply listed said′ = said′ ≡ saidBytes n taken dropped checked reply listed

@@ -1,0 +1,138 @@
+/* Naupelys: the module software of a front panel with four rows of twenty characters, six keys and status lights, behind the
+ * CFA635 packet protocol, as document 01 narrows it.
+ *
+ * Four calls over buffers that the caller lends. Nothing is allocated and nothing is kept between calls: all that the panel
+ * knows stands in the state. Every call returns, whatever the bytes, numbers and sizes, and no caller has to check first: a bad
+ * argument is refused by its number, and then the state and every buffer are as they came (power-on apart, below); `said` is
+ * written by every call. A pointer must point to as many bytes as its length says (and `said` to 16); a pointer whose length
+ * is 0 is not followed. No two lent buffers may overlap, but for those that are `const`.
+ *
+ * The number that a call returns (also in said[0]); the lowest that applies is given:
+ *
+ *    1  waiting, the piece is used up        line
+ *    2  a stray packet: not a command        line
+ *    3  done                                 all
+ *    4  a packet refused                     line
+ *   10  state out of its ranges              all   (also: not 402 bytes, or an edge or level byte above 1)
+ *   11  piece above 4,096 bytes              line
+ *   12  picture not 640 bytes                line, power-on
+ *   13  font not 2,048 bytes                 line, power-on
+ *   14  change list not 80 bytes             line
+ *   15  reply buffer not 26 bytes            line, key
+ *   16  register not 448 bytes               line
+ *   17  key above 5, or pin above 4          key, pin
+ *   18  key already up or down as told       key
+ *
+ * What the call says, in 16 bytes; numbers of more than one byte have their little end first:
+ *
+ *    0      the number above
+ *    1      command: the packet's low six type bits (numbers 2, 3 and 4 of a line call), else 0
+ *    2, 3   reason and place of a refused packet, else 0
+ *    4-5    bytes taken from the piece
+ *    6-7    bytes dropped from the line
+ *    8-11   bytes run through the checksum
+ *   12      length of the reply (or key report) at the front of the reply buffer, 0 if none was written
+ *   13      how many cells stand at the front of the change list
+ *   14-15   0
+ *
+ * The state, 402 bytes:
+ *
+ *      0        how many bytes of the line are held, 0 to 25
+ *      1-25     the held bytes, oldest first; those behind the count mean nothing (power-on and a line call leave zeros there)
+ *     26-194    the live settings
+ *    195-363    the boot state
+ *    364-366    keys down, pressed and released since the last poll: bit 0 up, 1 enter, 2 cancel, 3 left, 4 right, 5 down
+ *    367-371    last level of pins 0 to 4, 0 or 1 each
+ *    372-376    whether each fell since it was last read, 0 or 1
+ *    377-381    whether each rose since it was last read, 0 or 1
+ *    382-397    user flash
+ *    398-401    refusals that no record of the register holds, little end first
+ *
+ * Settings, 169 bytes:
+ *
+ *      0-79     the codes shown, 20 x row + column
+ *     80-143    the special glyphs, eight rows each, top row first, bit 5 left
+ *    144, 145   cursor column and row
+ *    146-148    cursor style, contrast, backlight
+ *    149, 150   masks of key presses and releases that are reported
+ *    151-163    levels of pins 0 to 12
+ *    164-168    configs of pins 0 to 4
+ *
+ * The register of faults, 64 records of 7 bytes, zeros when empty:
+ *
+ *      0-2      command, reason and place
+ *      3-6      count, little end first; 0 makes the record free
+ */
+#ifndef NAUPELYS_H
+#define NAUPELYS_H
+
+#include <stdbool.h>
+#include <stddef.h>
+#include <stdint.h>
+
+#ifdef __cplusplus
+extern "C" {
+#endif
+
+enum {
+    NAUPELYS_STATE = 402,
+    NAUPELYS_PIECE_MOST = 4096,
+    NAUPELYS_PICTURE = 640,
+    NAUPELYS_FONT = 2048,
+    NAUPELYS_LIST = 80,
+    NAUPELYS_REPLY = 26,
+    NAUPELYS_REGISTER = 448,
+    NAUPELYS_SAID = 16
+};
+
+enum {
+    NAUPELYS_WAITING = 1,
+    NAUPELYS_STRAY = 2,
+    NAUPELYS_DONE = 3,
+    NAUPELYS_REFUSED = 4,
+    NAUPELYS_BAD_STATE = 10,
+    NAUPELYS_BAD_PIECE = 11,
+    NAUPELYS_BAD_PICTURE = 12,
+    NAUPELYS_BAD_FONT = 13,
+    NAUPELYS_BAD_LIST = 14,
+    NAUPELYS_BAD_REPLY = 15,
+    NAUPELYS_BAD_REGISTER = 16,
+    NAUPELYS_BAD_NUMBER = 17,
+    NAUPELYS_KEY_AS_TOLD = 18
+};
+
+/* The panel at power-on: writes the state, and draws all of the picture. With a picture or font of a wrong size the state is
+ * written all the same and the picture is left alone; with a state of a wrong size nothing is written. */
+uint8_t naupelys_power_on(uint8_t *state, size_t state_size,
+                          uint8_t *picture, size_t picture_size,
+                          const uint8_t *font, size_t font_size,
+                          uint8_t *said);
+
+/* A piece of what the host sent. The call ends at the first packet, or when the piece is used up: call again with the rest of
+ * the piece until the number is 1 (an empty piece may still bring a packet from the held bytes). A packet's reply stands in
+ * the reply buffer, the cells whose drawing changed in the list, rising, and their eight bytes each in the picture. A refused
+ * packet is filed in the register. */
+uint8_t naupelys_line(uint8_t *state, size_t state_size,
+                      const uint8_t *piece, size_t piece_size,
+                      uint8_t *picture, size_t picture_size,
+                      const uint8_t *font, size_t font_size,
+                      uint8_t *list, size_t list_size,
+                      uint8_t *reply, size_t reply_size,
+                      uint8_t *faults, size_t faults_size,
+                      uint8_t *said);
+
+/* A key goes down or up: 0 up, 1 enter, 2 cancel, 3 left, 4 right, 5 down. A report that is due stands in the reply buffer. */
+uint8_t naupelys_key(uint8_t *state, size_t state_size,
+                     uint8_t key, bool down,
+                     uint8_t *reply, size_t reply_size,
+                     uint8_t *said);
+
+/* The level at a pin, 0 to 4. */
+uint8_t naupelys_pin(uint8_t *state, size_t state_size,
+                     uint8_t pin, bool high,
+                     uint8_t *said);
+
+#ifdef __cplusplus
+}
+#endif
+#endif
