@@ -1,0 +1,235 @@
+-- How a call over bytes comes out, put together from the promises of what it calls.
+use Prim.Native.Nat.{ℕ, _≤_}
+use mathlib.Core.Path.{_≡_, refl, sym, _∙_, ap, subst}
+use mathlib.Core.Bool.{Bool, true, false, true≢false, _&&_}
+use native.Mathlib.Omega.{arith}
+use mathlib.Core.List.{List}
+use lib.ListN.{length}
+use borrow.Author.Tests.{eq-eqb, ne-eqb, le-ltb}
+use Rattle.lists.specs.Tests.{when_then_else_, _<?_}
+use Rattle.lists.proofs.Laws.{when-either, when-true, when-false}
+use Rattle.framing.specs.declared.scan.Scanned.{Scanned}
+use Rattle.framing.specs.Scan.{Scans}
+use Rattle.panel.specs.declared.state.Body.{Body}
+use Rattle.panel.specs.declared.state.Panel.{Panel}
+use Rattle.panel.specs.State.{poweredOn}
+use Rattle.panel.specs.Ranges.{Ranges}
+use Rattle.register.specs.declared.run.FiledIn.{FiledIn}
+use Rattle.register.specs.declared.filing.Record.{Record}
+use Rattle.register.specs.Filing.{FilesBack}
+use Rattle.register.proofs.Theorems.{not-refused-changes-nothing}
+use Rattle.command.specs.declared.answer.Answer.{Answer}
+use Rattle.command.specs.declared.answer.Answer.the-variants.{Waiting, StateOutOfRange}
+use Rattle.command.specs.declared.answer.Said.{Said}
+use Rattle.command.specs.declared.answer.Filing.{Filing}
+use Rattle.command.specs.Answer.{numbersOf, filingOf, Hands, Check, decided, refusedCall}
+use Rattle.command.specs.Keys.{keySaid, keyReply, Presses}
+use Rattle.command.specs.Pins.{pinSaid, Moves}
+use Rattle.command.specs.Hear.{saidOf}
+use Rattle.command.proofs.Checks.{Pass, either-way, refused-by, accepted-by, answers-by-number}
+use Rattle.command.proofs.Hearing.{nothing-heard}
+use Rattle.picture.specs.declared.calls.Checked.{Checked}
+use Rattle.picture.proofs.Turns.{nothing-repainted}
+use Rattle.picture.proofs.LineCalls.{by-number, turned-away, turned-away-line, let-through-line, line-accepted, carried-accepted}
+use Rattle.picture.specs.Calls.{checksOf, lineChecks, turnedAway, letThrough, ChecksLine, CarriesOn, shownBefore, Lent, Lines, lineSaid, linePicture, lineList, lineReply, PowersOn, powerChecks, powerSaid, acceptedCall}
+use Rattle.whole.specs.Whole.{withUnfiled}
+use Rattle.layout.specs.declared.state.Reading.{Reading}
+use Rattle.layout.specs.State.{bytesOf, bodyOf, panelOf, readable, readingOf, stateWith, ReadsState, WritesState}
+use Rattle.layout.specs.Faults.{registerOf, ReadsFaults, WritesFaults}
+use Rattle.layout.proofs.WrittenBack.{state-size, line-written}
+use Rattle.layout.specs.Says.{saidBytes, bytesSaid}
+use Rattle.naupelys.specs.Calls.{numberOf, noState, onState, stateAfter, filesBy, faultsAfter, lineFiled, PowerOnBytes, LineBytes, KeyBytes, PinBytes, Told, Refused, Waits, Ends, FilesBytes}
+
+-- what was read says whether the bytes are a state, and which
+module _ (state : List ℕ) (r : Reading) (reads : ReadsState state r) where
+  no-state : r .readable ≡ false → readable state ≡ false
+  unfolding readingOf
+  no-state f =
+      when-either (λ (q : Reading). q .readable ≡ false → readable state ≡ false) (readable state) _ _ (λ _ g. absurd (true≢false g)) (λ e _. e)
+      (sym (ap (λ (q : Reading). q .readable) reads) ∙ f)
+
+  a-state : r .readable ≡ true → (readable state ≡ true) × (r .panel ≡ panelOf state)
+  unfolding readingOf
+  a-state f =
+      when-either (λ (q : Reading). q .readable ≡ true → r ≡ q → (readable state ≡ true) × (r .panel ≡ panelOf state)) (readable state) _ _
+      (λ e _ p. (e, ap (λ (q : Reading). q .panel) p)) (λ _ g _. absurd (true≢false (sym g))) (sym (ap (λ (q : Reading). q .readable) reads) ∙ f)
+      reads
+
+with-state : (state : List ℕ) (p : Panel) → length state ≡ 402 → stateWith state p ≡ bytesOf p
+unfolding stateWith
+with-state state p e = when-true _ _ _ (eq-eqb (length state) 402 e)
+
+-- bytes that are no state
+module _ (state : List ℕ) (r : Reading) (reads : ReadsState state r) (no : r .readable ≡ false) where
+  off : {A : Type 0} (x : A) (f : Panel → A) → x ≡ onState state x f
+  unfolding onState
+  off x f = sym (when-false _ _ _ (no-state state r reads no))
+
+  module _ (number : ℕ) (said′ : List ℕ) (told : (number ≡ 10) × (said′ ≡ noState)) where
+    pub line-refused : (l : Lent) (faults : List ℕ) → LineBytes state l faults number state (l .picture) (l .list) (l .reply) faults said′
+    line-refused l faults = (told .0 ∙ off _ _, off _ _, off _ _, off _ _, off _ _, off _ _, told .1 ∙ off _ _)
+
+    pub key-refused : (key : ℕ) (down : Bool) (reply : List ℕ) → KeyBytes state key down reply number state reply said′
+    key-refused key down reply = (told .0 ∙ off _ _, off _ _, off _ _, told .1 ∙ off _ _)
+
+    pub pin-refused : (pin : ℕ) (high : Bool) → PinBytes state pin high number state said′
+    pin-refused pin high = (told .0 ∙ off _ _, off _ _, told .1 ∙ off _ _)
+
+-- bytes that are a state
+module _ (state : List ℕ) (r : Reading) (reads : ReadsState state r) (yes : r .readable ≡ true) where
+  on : {A : Type 0} (x : A) (f : Panel → A) → f (r .panel) ≡ onState state x f
+  unfolding onState
+  on x f = let a = a-state state r reads yes in ap f (a .1) ∙ sym (when-true _ _ _ (a .0))
+
+  kept : (s : Said) → when numberOf s <? 10 then stateWith state (s .panel) else state ≡ stateAfter state s
+  unfolding stateAfter
+  kept s = rw (with-state state (s .panel) (state-size state (a-state state r reads yes .0)))
+
+  module _ (number : ℕ) (state′ said′ : List ℕ) where
+    pub line-called : (l : Lent) (faults : List ℕ) (s : Said) (u : ℕ) (picture′ list′ reply′ faults′ : List ℕ) → Lines (r .panel) l s picture′ list′ reply′
+        → FilesBytes (s .answer) (s .panel .unfiled) faults u faults′
+        → Ends state (withUnfiled s u) number state′ said′
+        → LineBytes state l faults number state′ picture′ list′ reply′ faults′ said′
+    line-called l faults s u picture′ list′ reply′ faults′ h f e =
+        let q = h .0 in (
+          e .0 ∙ ap numberOf q ∙ on 10 (λ (p : Panel). numberOf (lineSaid p l)),
+          e .1 ∙ kept (withUnfiled s u) ∙ ap (λ (n : ℕ). stateAfter state (withUnfiled s n)) (f .0)
+              ∙ ap (λ (t : Said). stateAfter state (withUnfiled t (filesBy (t .answer) (t .panel .unfiled) faults .unfiled))) q
+              ∙ on state (λ (p : Panel). stateAfter state (lineFiled p l faults)),
+          h .1 ∙ on (l .picture) (λ (p : Panel). linePicture p l),
+          h .2 ∙ on (l .list) (λ (p : Panel). lineList p l),
+          h .3 ∙ on (l .reply) (λ (p : Panel). lineReply p l),
+          f .1 ∙ ap (λ (t : Said). faultsAfter (t .answer) (t .panel .unfiled) faults) q
+              ∙ on faults (λ (p : Panel). faultsAfter (lineSaid p l .answer) (lineSaid p l .panel .unfiled) faults),
+          e .2 ∙ ap bytesSaid q ∙ on noState (λ (p : Panel). bytesSaid (lineSaid p l)),
+        )
+
+    pub key-called : (key : ℕ) (down : Bool) (reply : List ℕ) (s : Said) (reply′ : List ℕ) → Presses (r .panel) key down reply s reply′
+        → Ends state s number state′ said′
+        → KeyBytes state key down reply number state′ reply′ said′
+    key-called key down reply s reply′ h e =
+        let q = h .0 in (
+          e .0 ∙ ap numberOf q ∙ on 10 (λ (p : Panel). numberOf (keySaid p key down reply)),
+          e .1 ∙ kept s ∙ ap (stateAfter state) q ∙ on state (λ (p : Panel). stateAfter state (keySaid p key down reply)),
+          h .1 ∙ on reply (λ (p : Panel). keyReply p key down reply),
+          e .2 ∙ ap bytesSaid q ∙ on noState (λ (p : Panel). bytesSaid (keySaid p key down reply)),
+        )
+
+    pub pin-called : (pin : ℕ) (high : Bool) (s : Said) → Moves (r .panel) pin high s → Ends state s number state′ said′
+        → PinBytes state pin high number state′ said′
+    pin-called pin high s q e = (
+      e .0 ∙ ap numberOf q ∙ on 10 (λ (p : Panel). numberOf (pinSaid p pin high)),
+      e .1 ∙ kept s ∙ ap (stateAfter state) q ∙ on state (λ (p : Panel). stateAfter state (pinSaid p pin high)),
+      e .2 ∙ ap bytesSaid q ∙ on noState (λ (p : Panel). bytesSaid (pinSaid p pin high)),
+    )
+
+-- filing
+module _ (answer : Answer) (unfiled : ℕ) (faults : List ℕ) (f : Filing) (hands : Hands answer f) where
+  pub nothing-filed : f .refused ≡ false → FilesBytes answer unfiled faults unfiled faults
+  unfolding faultsAfter
+  nothing-filed h =
+      let e : filingOf answer .refused ≡ false = sym (ap (λ (g : Filing). g .refused) hands) ∙ h in
+      (rw (e, not-refused-changes-nothing), sym (when-false _ _ _ e))
+
+  pub refusal-filed : f .refused ≡ true → (records : List Record) (q : FiledIn) (faults′ : List ℕ) → ReadsFaults faults records
+      → FilesBack records (f .refused) (f .key) unfiled q
+      → WritesFaults faults (q .register) faults′
+      → FilesBytes answer unfiled faults (q .unfiled) faults′
+  unfolding faultsAfter
+  refusal-filed h records q faults′ reads files writes =
+      let e : filingOf answer .refused ≡ true = sym (ap (λ (g : Filing). g .refused) hands) ∙ h in
+      let p : FilesBack (registerOf faults) (filingOf answer .refused) (filingOf answer .key) unfiled q = rw (hands, reads) at files in
+      (ap (λ (g : FiledIn). g .unfiled) p, writes ∙ rw (ap (λ (g : FiledIn). g .register) p) (sym (when-true _ _ _ e)))
+
+-- the checks of a line call over bytes, and what comes of them
+module _ (state : List ℕ) (r : Reading) (reads : ReadsState state r) (l : Lent) (faults : List ℕ) (inRange : Bool) (ranges : Ranges (r .panel) inRange) (k : Checked) (checked : ChecksLine (r .readable && inRange) (length (l .piece)) (length (l .picture)) (length (l .font)) (length (l .list)) (length (l .reply)) (l .records) k) where
+  abbrev p : Panel
+  p = r .panel
+
+  abbrev checks : Bool → List Check
+  checks t = checksOf t (length (l .piece)) (length (l .picture)) (length (l .font)) (length (l .list)) (length (l .reply)) (l .records)
+
+  -- of a state that can be read the checks are those of the panel
+  as-panel : r .readable ≡ true → k ≡ decided (lineChecks p l) turnedAway letThrough
+  as-panel e = checked ∙ ap (λ (t : Bool). decided (checks (t && inRange)) turnedAway letThrough) e ∙ ap (λ (t : Bool). decided (checks t) turnedAway letThrough) ranges
+
+  can-be-read : k .passes ≡ true → r .readable ≡ true
+  unfolding decided
+  can-be-read e = go (r .readable) refl
+    where
+      go : (t : Bool) → r .readable ≡ t → r .readable ≡ true
+      go true f = f
+      go false f =
+          absurd (true≢false (sym e ∙ ap (λ (c : Checked). c .passes) (checked ∙ ap (λ (t : Bool). decided (checks (t && inRange)) turnedAway letThrough) f ∙ when-false _ _ _ refl)))
+
+  pub passed : k .passes ≡ true → Pass (lineChecks p l)
+  passed e = let-through-line p l k (as-panel (can-be-read e)) e
+
+  pub line-turned-away : k .passes ≡ false → (number : ℕ) (said′ : List ℕ) → Refused (k .answer) number said′
+      → LineBytes state l faults number state (l .picture) (l .list) (l .reply) faults said′
+  unfolding decided numbersOf
+  line-turned-away e number said′ told = go (r .readable) refl
+    where
+      go : (t : Bool) → r .readable ≡ t → LineBytes state l faults number state (l .picture) (l .list) (l .reply) faults said′
+      go false f =
+          let a : k ≡ turnedAway StateOutOfRange = checked ∙ ap (λ (t : Bool). decided (checks (t && inRange)) turnedAway letThrough) f ∙ when-false _ _ _ refl in
+          line-refused state r reads f number said′ (told .0 ∙ ap (λ (c : Checked). numbersOf (c .answer) .number) a, told .1 ∙ ap (λ (c : Checked). saidBytes (numbersOf (c .answer)) 0 0 0 0 0) a) l faults
+      go true f =
+          let q = as-panel f in
+          let fails = turned-away (lineChecks p l) (sym (ap (λ (c : Checked). c .passes) q) ∙ e) in
+          let ten : 10 ≤ numbersOf (k .answer) .number = rw q (answers-by-number (by-number p l) fails) in
+          let s : Said = refusedCall p (k .answer) in
+          line-called state r reads f number state said′ l faults s (p .unfiled) (l .picture) (l .list) (l .reply) faults (turned-away-line p l k q e refl)
+          (nothing-filed (k .answer) (p .unfiled) faults _ refl (ne-eqb _ _ (λ (i : numbersOf (k .answer) .number ≡ 4). absurd (omega arith))))
+          (told .0, sym (when-false _ _ _ (le-ltb _ _ ten)), told .1)
+
+  module _ (let-in : k .passes ≡ true) (s : Scanned) (scans : Scans (p .hold) (l .piece) s) where
+    pub line-waited : s .found ≡ false → (number : ℕ) (state′ said′ : List ℕ) → Waits state s (p .unfiled) number state′ said′
+        → LineBytes state l faults number state′ (l .picture) (l .list) (l .reply) faults said′
+    unfolding numbersOf panelOf
+    line-waited f number state′ said′ w =
+        let e = can-be-read let-in in
+        let b = a-state state r reads e in
+        let q = passed let-in in
+        let h = saidOf p s (p .body) Waiting 0 in
+        let heard = nothing-heard p s (l .reply) f in
+        let on-it : CarriesOn p s (l .picture) (l .font) (l .list) (l .reply) h (l .picture) (l .list) (l .reply) =
+        carried-accepted p s (l .picture) (l .font) (l .list) (l .reply) h 0 _ _ _ (q .1 .1 .0, (q .1 .1 .1 .1 .0, tt)) heard (nothing-repainted (shownBefore p) (l .font) (l .picture) (l .list)) in
+        let body : bodyOf state ≡ p .body = ap (λ (x : Panel). x .body) (sym (b .1)) in
+        line-called state r reads e number state′ said′ l faults h (p .unfiled) (l .picture) (l .list) (l .reply) faults
+        (line-accepted p l h _ _ _ q (subst (λ (x : Scanned). CarriesOn p x (l .picture) (l .font) (l .list) (l .reply) h (l .picture) (l .list) (l .reply)) scans on-it))
+        (nothing-filed Waiting (p .unfiled) faults _ refl refl)
+        (w .0, w .1 ∙ line-written state (b .0) (s .hold) (p .unfiled) ∙ ap (λ (x : Body). stateWith state (record { hold = s .hold; body = x; unfiled = p .unfiled })) body ∙ sym (when-true _ _ _ refl), w .2)
+
+    pub line-carried-on : (t : Said) (u number : ℕ) (state′ picture′ list′ reply′ faults′ said′ : List ℕ)
+        → CarriesOn p s (l .picture) (l .font) (l .list) (l .reply) t picture′ list′ reply′
+        → FilesBytes (t .answer) (t .panel .unfiled) faults u faults′
+        → Ends state (withUnfiled t u) number state′ said′
+        → LineBytes state l faults number state′ picture′ list′ reply′ faults′ said′
+    line-carried-on t u number state′ picture′ list′ reply′ faults′ said′ on-it files ends =
+        line-called state r reads (can-be-read let-in) number state′ said′ l faults t u picture′ list′ reply′ faults′
+        (line-accepted p l t _ _ _ (passed let-in) (subst (λ (x : Scanned). CarriesOn p x (l .picture) (l .font) (l .list) (l .reply) t picture′ list′ reply′) scans on-it)) files ends
+
+-- power-on returns the power-on state, refused or not
+power-panel : (picture font : List ℕ) → powerSaid picture font .panel ≡ poweredOn
+power-panel picture font =
+    either-way (powerChecks picture font) (λ a f. ap (λ (s : Said). s .panel) (refused-by f (refusedCall poweredOn) (acceptedCall poweredOn)))
+    (λ q. ap (λ (s : Said). s .panel) (accepted-by (powerChecks picture font) q (refusedCall poweredOn) (acceptedCall poweredOn)))
+
+module _ (state picture font : List ℕ) (number : ℕ) (said′ : List ℕ) where
+  pub power-on-refused : (length state ≡ 402 → ⊥) → (number ≡ 10) × (said′ ≡ noState) → PowerOnBytes state picture font number state picture said′
+  power-on-refused other told =
+      let e = ne-eqb (length state) 402 other in
+      (told .0 ∙ sym (when-false _ _ _ e), sym (when-false _ _ _ e), sym (when-false _ _ _ e), told .1 ∙ sym (when-false _ _ _ e))
+
+  pub power-on-called : length state ≡ 402 → (s : Said) (state′ picture′ : List ℕ) → PowersOn picture font s picture′ → WritesState state (s .panel) state′
+      → Told s number said′
+      → PowerOnBytes state picture font number state′ picture′ said′
+  power-on-called size s state′ picture′ h w t =
+      let e = eq-eqb (length state) 402 size in
+      let q = h .0 in (
+        t .0 ∙ ap numberOf q ∙ sym (when-true _ _ _ e),
+        w ∙ with-state state (s .panel) size ∙ ap (λ (u : Said). bytesOf (u .panel)) q ∙ ap bytesOf (power-panel picture font) ∙ sym (when-true _ _ _ e),
+        h .1 ∙ sym (when-true _ _ _ e),
+        t .1 ∙ ap bytesSaid q ∙ sym (when-true _ _ _ e),
+      )

@@ -1,0 +1,86 @@
+/* A session with the panel: power-on, a ping, a text write, a contrast that is out of range, and a key.
+ *
+ * Beside each call stands what document 01 says of it; panel.expected holds those lines, worked out by hand. */
+#include "naupelys.h"
+
+#include <stdio.h>
+
+static uint8_t state[NAUPELYS_STATE];
+static uint8_t picture[NAUPELYS_PICTURE];
+static uint8_t font[NAUPELYS_FONT];
+static uint8_t list[NAUPELYS_LIST];
+static uint8_t reply[NAUPELYS_REPLY];
+static uint8_t faults[NAUPELYS_REGISTER];
+static uint8_t said[NAUPELYS_SAID];
+
+/* The number returned, the command, reason and place, the bytes taken, dropped and run through the checksum, the reply's
+ * length and its bytes, and how many cells were listed and which. */
+static void show(const char *name, uint8_t number)
+{
+    printf("%s: %u command %u reason %u place %u taken %u dropped %u checked %lu reply", name, number, said[1], said[2], said[3],
+           said[4] + 256u * said[5], said[6] + 256u * said[7],
+           said[8] + 256ul * said[9] + 65536ul * said[10] + 16777216ul * said[11]);
+    for (int i = 0; i < said[12]; i++) {
+        printf(" %02X", reply[i]);
+    }
+    printf(" cells");
+    for (int i = 0; i < said[13]; i++) {
+        printf(" %u", list[i]);
+    }
+    printf("\n");
+}
+
+/* A packet as the host sends it, whole in one piece. */
+static void send(const char *name, const uint8_t *packet, size_t size)
+{
+    uint8_t number = naupelys_line(state, sizeof state, packet, size, picture, sizeof picture, font, sizeof font,
+                                   list, sizeof list, reply, sizeof reply, faults, sizeof faults, said);
+    show(name, number);
+}
+
+/* The top line of the first row of cells: byte 8 x cell for each of 20 cells. */
+static void show_top_line(void)
+{
+    printf("top line of row 0:");
+    for (int cell = 0; cell < 20; cell++) {
+        printf(" %u", picture[8 * cell]);
+    }
+    printf("\n");
+}
+
+int main(void)
+{
+    /* The line program's font: the eight rows of code c all equal c mod 64. */
+    for (int i = 0; i < NAUPELYS_FONT; i++) {
+        font[i] = (uint8_t)(i / 8 % 64);
+    }
+
+    /* An accepted power-on answers 3 and draws 80 spaces, code 32: each byte of the picture is 32. */
+    show("power-on", naupelys_power_on(state, sizeof state, picture, sizeof picture, font, sizeof font, said));
+    show_top_line();
+
+    /* P1: a ping replies with type 64 and the same data, here none. Type and length ran through the checksum: 2 bytes. */
+    static const uint8_t ping[] = {0x00, 0x00, 0x47, 0x0F};
+    send("ping", ping, sizeof ping);
+
+    /* Command 31 writes "Hi" at column 2, row 0: done, a reply of type 95 without data, and cells 2 and 3 change, since H is
+     * 72, drawn as 72 mod 64 = 8, and i is 105, drawn as 41. Six bytes ran through the checksum. */
+    static const uint8_t text[] = {0x1F, 0x04, 0x02, 0x00, 'H', 'i', 0xB1, 0xEA};
+    send("text", text, sizeof text);
+    show_top_line();
+
+    /* P8: contrast 255 is refused for reason 3 at place 2. The error reply has type 192 + 13 = 205. */
+    static const uint8_t contrast[] = {0x0D, 0x01, 0xFF, 0x13, 0x2F};
+    send("contrast 255", contrast, sizeof contrast);
+
+    /* The refusal stands in the first record: command 13, reason 3, place 2, a count of 1. */
+    printf("first record: command %u reason %u place %u count %lu\n", faults[0], faults[1], faults[2],
+           faults[3] + 256ul * faults[4] + 65536ul * faults[5] + 16777216ul * faults[6]);
+
+    /* Enter is key 1. All keys are reported at power-on, so a report of type 128 and length 1 is due: 5 for enter pressed. */
+    show("enter", naupelys_key(state, sizeof state, 1, true, reply, sizeof reply, said));
+
+    /* Told again that it is down: 18, and nothing changes. */
+    show("enter again", naupelys_key(state, sizeof state, 1, true, reply, sizeof reply, said));
+    return 0;
+}
