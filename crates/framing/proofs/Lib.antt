@@ -7,3 +7,4 @@ pub mod Lines
 pub mod Steps
 pub mod Theorems
 pub mod Turns
+pub mod Windows

@@ -1,12 +1,12 @@
--- A call, one judgement at a time: after t bytes taken, d dropped and k run through the checksum.
-use mathlib.Core.Path.{_≡_, refl, _∙_, ap}
-use mathlib.Core.List.{List, [], _∷_, _++_}
-use Prim.Native.Nat.{ℕ, _+_, _<_, _≤_}
+-- A call, one judgement at a time.
+use mathlib.Core.Path.{_≡_, refl, _∙_}
+use mathlib.Core.List.{List, [], _∷_, _++_, append-nil}
+use Prim.Native.Nat.{ℕ, zero, suc, _+_, _<_, _≤_}
 use native.Mathlib.Nat.{zero-add, add-assoc}
-use native.Mathlib.Numerals.{add-one}
+use native.Mathlib.Numerals.{one-add}
 use native.Mathlib.Omega.{arith}
-use lib.ListN.{length, drop, getD, drop-of-length-le}
-use lib.Seq.{drop-cons}
+use lib.ListN.{length, take, drop}
+use lib.Seq.{append-snoc}
 use Rattle.framing.specs.declared.judge.Judgement.{Judgement}
 use Rattle.framing.specs.declared.judge.Judgement.the-variants.{Wait, LongLength, WrongChecksum, Packet}
 use Rattle.framing.specs.Judge.{lengthByte, judge}
@@ -59,31 +59,34 @@ scan-drop h g (b ∷ s) d c e = rw e (go (settle g .ending) (scan (settle g .hol
     go waiting q = simp (zero-add, add-assoc)
     go (packet k x) q = refl
 
-module _ (h s : List ℕ) (t d k : ℕ) where
-  pub drops-long : judge h ≡ LongLength → after t d k (scan h s) ≡ after t (d + 1) k (scan (drop 1 h) s)
-  drops-long e = rw (scan-drop h (drop 1 h) s 1 0 (settle-long h e)) (simp (zero-add, add-assoc))
+module _ (h s : List ℕ) where
+  pub drops-long : judge h ≡ LongLength → scan h s ≡ after 0 1 0 (scan (drop 1 h) s)
+  drops-long e = scan-drop h (drop 1 h) s 1 0 (settle-long h e)
 
-  pub drops-wrong : judge h ≡ WrongChecksum → after t d k (scan h s) ≡ after t (d + 1) (k + (lengthByte h + 2)) (scan (drop 1 h) s)
-  drops-wrong e = rw (scan-drop h (drop 1 h) s 1 (lengthByte h + 2) (settle-wrong h e)) (simp (zero-add, add-assoc))
+  pub drops-wrong : judge h ≡ WrongChecksum → scan h s ≡ after 0 1 (lengthByte h + 2) (scan (drop 1 h) s)
+  drops-wrong e = scan-drop h (drop 1 h) s 1 (lengthByte h + 2) (settle-wrong h e)
 
-  pub finds : judge h ≡ Packet → after t d k (scan h s) ≡ after t d k (found h)
+  pub finds : judge h ≡ Packet → scan h s ≡ found h
   unfolding scan goOn
-  finds e = ap (after t d k) (at s)
+  finds e = at s
     where
       at : (r : List ℕ) → scan h r ≡ found h
       at [] = settle-found h e
       at (b ∷ r) = rw (settle-found h e)
 
-  pub takes : judge h ≡ Wait → t < length s → after t d k (scan h (drop t s)) ≡ after (t + 1) d k (scan (h ++ getD s t 0 ∷ []) (drop (t + 1) s))
-  unfolding scan goOn
-  takes e n =
-      let o = scan (h ++ getD s t 0 ∷ []) (drop (t + 1) s) in
-      let u : scan h (drop t s) ≡ after 1 0 0 o = rw (drop-cons s t 0 n, settle-wait h e, add-one) in
-      ap (after t d k) u ∙ one-more o
-    where
-      one-more : (o : Outcome) → after t d k (after 1 0 0 o) ≡ after (t + 1) d k o
-      one-more o = simp (zero-add, add-assoc)
+pub ends-waiting : (h : List ℕ) → judge h ≡ Wait → scan h [] ≡ still h
+unfolding scan
+ends-waiting h e = settle-wait h e
 
-  pub ends-waiting : judge h ≡ Wait → length s ≤ t → after t d k (scan h (drop t s)) ≡ after t d k (still h)
-  unfolding scan
-  ends-waiting e n = rw (drop-of-length-le s n, settle-wait h e)
+pub after-after : (t d k t′ d′ k′ : ℕ) (o : Outcome) → after t d k (after t′ d′ k′ o) ≡ after (t + t′) (d + d′) (k + k′) o
+after-after t d k t′ d′ k′ o = simp add-assoc
+
+-- m bytes are taken where the judgement waits before each of them
+pub takes : (m : ℕ) (h s : List ℕ) → m ≤ length s → ((i : ℕ) → i < m → judge (h ++ take i s) ≡ Wait) → scan h s ≡ after m 0 0 (scan (h ++ take m s) (drop m s))
+unfolding scan goOn
+takes zero h s n f = simp (append-nil, zero-add)
+takes (suc m) h [] n f = absurd (omega arith)
+takes (suc m) h (b ∷ s) n f =
+    let w : judge h ≡ Wait = rw append-nil at (f 0 (omega arith)) in
+    let i = takes m (h ++ b ∷ []) s (omega arith) (λ i l. rw append-snoc (f (suc i) (omega arith))) in
+    rw (settle-wait h w, i, append-snoc) (after-after 1 0 0 m 0 0 (scan (h ++ b ∷ take m s) (drop m s)) ∙ rw one-add)

@@ -3,4 +3,5 @@ pub mod Packet
 pub mod Hold
 pub mod Judge
 pub mod Scan
+pub mod Walk
 pub mod Line

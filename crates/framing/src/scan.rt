@@ -1,12 +1,12 @@
-// A call's scan of a piece of the line: judge, on a wait take one more byte, end at the first packet or when the piece is
-// used up.
+// A call's scan of a piece of the line: judge, on a wait take more bytes, end at the first packet or when the piece is used
+// up. The judged bytes stand where they came, in the piece; those of earlier calls stand in a window with the piece's first.
 ghost use mathlib.Core.Path.{_≡_};
-ghost use mathlib.Core.List.{_∷_, [], _++_};
-ghost use Prim.Native.Nat.{_+_, _*_, _-_, _<_, _≤_, min};
-ghost use lib.ListN.{length, getD, take, drop};
+ghost use Prim.Native.Nat.{_+_, _≤_};
+ghost use lib.ListN.{length, take, drop};
 ghost use Rattle.framing.specs.Judge.{lengthByte};
 ghost use Rattle.framing.specs.Hold.{held, holdOf};
 ghost use Rattle.framing.specs.Scan.{still, after, found, scan, scannedOf, Scans};
+ghost use Rattle.framing.specs.Walk.{needed, from, Walks};
 use crate::hold::Hold;
 use crate::judge::Judgement;
 use crate::packet::Packet;
@@ -21,7 +21,15 @@ pub struct Scanned {
     pub checked: usize,
 }
 
-// What the window holds up to a count, for the next call.
+// Where a walk over bytes ends: those from `start` up to `end` are held, a packet at their front or waiting for more.
+struct Walked {
+    found: bool,
+    start: usize,
+    end: usize,
+    checked: usize,
+}
+
+// The held bytes, for the next call.
 fn kept(window: &[u8]) -> Hold
     requires { ⌜ length (now window) ≤ 25 ⌝ }
     ensures { λ r. ⌜ r ≡ holdOf (now (window .entry)) ⌝ }
@@ -31,19 +39,6 @@ fn kept(window: &[u8]) -> Hold
     Hold {
         bytes,
         count: window.len(),
-    }
-}
-
-// All bytes one place forward, the oldest gone; the last place keeps its value.
-fn forward(window: &mut [u8])
-    requires { ⌜ 0 < length (now window) ⌝ }
-    ensures { λ r. ⌜ take (length (now (window .entry)) - 1) (now (window .exit)) ≡ drop 1 (now (window .entry)) ⌝ }
-{
-    let last = window.len() - 1;
-    let mut i = 0;
-    while i < last {
-        window[i] = window[i + 1];
-        i += 1;
     }
 }
 
@@ -93,45 +88,117 @@ fn waiting(window: &[u8], taken: usize, dropped: usize, checked: usize) -> Scann
     }
 }
 
+// As many bytes as must be held before the judgement is no wait.
+fn wanted(held: &[u8]) -> usize
+    ensures { λ r. ⌜ r ≡ needed (now (held .entry)) ⌝ }
+{
+    if held.len() < 2 {
+        return 2;
+    }
+    lists::wide(held[1]) + 4
+}
+
+// Judges the bytes from `first` up to `next`, which are held. A drop moves the front and a wait the end, so that nothing is
+// copied. The walk ends at a packet, or at a wait where the bytes are used up.
+fn walk(bytes: &[u8], first: usize, next: usize) -> Walked
+    requires { ⌜ (first ≤ next) × (next ≤ first + 26) × (next ≤ length (now bytes)) × (length (now bytes) ≤ 65535) ⌝ }
+    ensures { λ r. ⌜ Walks (now (bytes .entry)) first next r ⌝ }
+{
+    let mut start = first;
+    let mut end = next;
+    let mut checked = 0;
+    loop {
+        let j = crate::judge::judge(&bytes[start..end]);
+        match j {
+            Judgement::Wait => {
+                if end < bytes.len() {
+                    end = lists::at_most(start + wanted(&bytes[start..end]), bytes.len());
+                } else {
+                    return Walked {
+                        found: false,
+                        start,
+                        end,
+                        checked,
+                    };
+                }
+            }
+            Judgement::LongLength => {
+                start += 1;
+            }
+            Judgement::WrongChecksum => {
+                checked += lists::wide(bytes[start + 1]) + 2;
+                start += 1;
+            }
+            Judgement::Packet => {
+                return Walked {
+                    found: true,
+                    start,
+                    end,
+                    checked,
+                };
+            }
+        }
+    }
+}
+
+// The rest of a call that holds bytes of the piece alone, those from `first` up to `next`, with `dropped` dropped before them.
+fn scan_rest(piece: &[u8], first: usize, next: usize, dropped: usize, checked: usize) -> Scanned
+    requires { ⌜ (first ≤ next) × (next ≤ first + 26) × (next ≤ length (now piece)) × (length (now piece) ≤ 65535) × (dropped ≤ 25) × (checked ≤ 2000) ⌝ }
+    ensures { λ r. ⌜ r ≡ scannedOf (after next (dropped + first) checked (from first next (now (piece .entry)))) ⌝ }
+{
+    let w = walk(piece, first, next);
+    let start = w.start;
+    let end = w.end;
+    if w.found {
+        with_packet(
+            &piece[start..end],
+            end,
+            dropped + start,
+            checked + w.checked,
+        )
+    } else {
+        waiting(
+            &piece[start..end],
+            end,
+            dropped + start,
+            checked + w.checked,
+        )
+    }
+}
+
+// A call that holds the first `count` bytes of the window, which are of earlier calls; the piece's first 25 stand behind them
+// in it. Of more than 25 bytes none waits, so a walk that goes on behind the window holds bytes of the piece alone.
+fn scan_window(window: &[u8], count: usize, piece: &[u8]) -> Scanned
+    requires { ⌜ (drop count (now window) ≡ take 25 (now piece)) × (count ≤ length (now window)) × (count ≤ 25) × (length (now piece) ≤ 65535) ⌝ }
+    ensures { λ r. ⌜ r ≡ scannedOf (scan (take count (now (window .entry))) (now (piece .entry))) ⌝ }
+{
+    let w = walk(window, 0, count);
+    let start = w.start;
+    let end = w.end;
+    let taken = end - count;
+    if w.found {
+        return with_packet(&window[start..end], taken, start, w.checked);
+    }
+    if taken == piece.len() {
+        return waiting(&window[start..end], taken, start, w.checked);
+    }
+    scan_rest(piece, start - count, taken, count, w.checked)
+}
+
 fn scan_part(hold: Hold, piece: &[u8]) -> Scanned
     requires { ⌜ length (now piece) ≤ 65535 ⌝ }
     ensures { λ r. ⌜ r ≡ scannedOf (scan (held hold) (now (piece .entry))) ⌝ }
 {
     let bytes = hold.bytes;
-    let mut count = lists::at_most(hold.count, 25);
-    let mut window = [0u8; 26];
-    lists::paste(&mut window, 0, &bytes[..count]);
-    let mut taken = 0;
-    let mut dropped = 0;
-    let mut checked = 0;
-    loop {
-        let j = crate::judge::judge(&window[..count]);
-        match j {
-            Judgement::Wait => {
-                if taken < piece.len() {
-                    window[count] = piece[taken];
-                    count += 1;
-                    taken += 1;
-                } else {
-                    return waiting(&window[..count], taken, dropped, checked);
-                }
-            }
-            Judgement::LongLength => {
-                forward(&mut window);
-                count -= 1;
-                dropped += 1;
-            }
-            Judgement::WrongChecksum => {
-                checked += lists::wide(window[1]) + 2;
-                forward(&mut window);
-                count -= 1;
-                dropped += 1;
-            }
-            Judgement::Packet => {
-                return with_packet(&window[..count], taken, dropped, checked);
-            }
-        }
+    let count = lists::at_most(hold.count, 25);
+    if count == 0 {
+        return scan_rest(piece, 0, 0, 0, 0);
     }
+    let near = lists::at_most(piece.len(), 25);
+    let mut window = [0u8; 50];
+    lists::paste(&mut window, 0, &bytes);
+    lists::paste(&mut window, count, &piece[..near]);
+    scan_window(&window[..count + near], count, piece)
 }
 
 // Of a piece above 65,535 bytes a call sees the first 65,535.

@@ -1,0 +1,28 @@
+use mathlib.Core.Path.{sym}
+use Rattle.framing.proofs.Judgements.{needed-short, needed-part}
+use native.Mathlib.Omega.{arith}
+use borrow.Author.Needs.{needs}
+use Rattle.framing.proofs.scan.wanted.Statement.{statement}
+use Rattle.framing.proofs.scan.wanted.Tie as tie
+use Rattle.framing.proofs.scan.wanted.Reads as reads
+use Rattle.framing.proofs.scan.wanted.Lts as lts
+use Rattle.lists.proofs.wide.Reads as wide-reads
+
+returns : tie.Need-returns
+returns c = sym (needed-short _ (omega arith))
+
+shared-slice-read-wide : tie.Need-shared-slice-read-wide
+shared-slice-read-wide c = search needs
+
+wide-requires : tie.Need-wide-requires
+wide-requires c κs = search needs
+
+add-result : tie.Need-add-result
+add-result c = search needs
+
+returns-2 : tie.Need-returns-2
+returns-2 c = omega (arith, c .wide .ensures .0, needed-part (c .before .before .before .before .args .held .now) (omega arith))
+
+pub wanted-spec : {M : Type 1} → statement M
+wanted-spec =
+    tie.close (tie.spec returns shared-slice-read-wide wide-requires add-result returns-2)
