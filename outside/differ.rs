@@ -1,0 +1,1489 @@
+//! The differential test: the library and the reading get the same calls, and after every call the number returned and every
+//! lent byte are compared. `differ` runs the worked cases, the sweeps, and random sequences from a fixed seed and from the
+//! clock; `differ SEED` takes SEED in the clock's place; `differ SEED SEQUENCE` repeats that one sequence.
+
+#[allow(dead_code)]
+#[path = "reading.rs"]
+mod reading;
+
+use reading::{checksum, FONT, LIST, PICTURE, PIECE_MOST, REGISTER, REPLY, SAID, STATE};
+use std::collections::BTreeMap;
+use std::io::Write;
+use std::process::exit;
+use std::time::{Instant, SystemTime, UNIX_EPOCH};
+
+const FIXED_SEED: u64 = 635;
+const SEQUENCES: u64 = 24_000;
+
+/// `naupelys.h`.
+mod library {
+    extern "C" {
+        pub fn naupelys_power_on(
+            state: *mut u8,
+            state_size: usize,
+            picture: *mut u8,
+            picture_size: usize,
+            font: *const u8,
+            font_size: usize,
+            said: *mut u8,
+        ) -> u8;
+        pub fn naupelys_line(
+            state: *mut u8,
+            state_size: usize,
+            piece: *const u8,
+            piece_size: usize,
+            picture: *mut u8,
+            picture_size: usize,
+            font: *const u8,
+            font_size: usize,
+            list: *mut u8,
+            list_size: usize,
+            reply: *mut u8,
+            reply_size: usize,
+            faults: *mut u8,
+            faults_size: usize,
+            said: *mut u8,
+        ) -> u8;
+        pub fn naupelys_key(
+            state: *mut u8,
+            state_size: usize,
+            key: u8,
+            down: bool,
+            reply: *mut u8,
+            reply_size: usize,
+            said: *mut u8,
+        ) -> u8;
+        pub fn naupelys_pin(state: *mut u8, state_size: usize, pin: u8, high: bool, said: *mut u8) -> u8;
+    }
+}
+
+// ---------------------------------------------------------------------------------------------------------------------------
+// Random numbers
+// ---------------------------------------------------------------------------------------------------------------------------
+
+/// Splitmix64.
+struct Rng(u64);
+
+impl Rng {
+    /// Each sequence has its own run of numbers, so that it can be repeated alone.
+    fn for_sequence(seed: u64, sequence: u64) -> Rng {
+        let mut rng = Rng(seed ^ sequence.wrapping_mul(0xD1B5_4A32_D192_ED03));
+        rng.next();
+        rng
+    }
+
+    fn next(&mut self) -> u64 {
+        self.0 = self.0.wrapping_add(0x9E37_79B9_7F4A_7C15);
+        let mut z = self.0;
+        z = (z ^ (z >> 30)).wrapping_mul(0xBF58_476D_1CE4_E5B9);
+        z = (z ^ (z >> 27)).wrapping_mul(0x94D0_49BB_1331_11EB);
+        z ^ (z >> 31)
+    }
+
+    /// 0 to n - 1.
+    fn below(&mut self, n: usize) -> usize {
+        (((self.next() >> 32) * n as u64) >> 32) as usize
+    }
+
+    /// low to high, both too.
+    fn between(&mut self, low: usize, high: usize) -> usize {
+        low + self.below(high - low + 1)
+    }
+
+    fn one_in(&mut self, n: usize) -> bool {
+        self.below(n) == 0
+    }
+
+    fn flag(&mut self) -> bool {
+        self.one_in(2)
+    }
+
+    fn byte(&mut self) -> u8 {
+        self.next() as u8
+    }
+
+    fn fill(&mut self, bytes: &mut [u8]) {
+        for chunk in bytes.chunks_mut(8) {
+            let word = self.next().to_le_bytes();
+            chunk.copy_from_slice(&word[..chunk.len()]);
+        }
+    }
+
+    fn bytes(&mut self, n: usize) -> Vec<u8> {
+        let mut bytes = vec![0; n];
+        self.fill(&mut bytes);
+        bytes
+    }
+
+    fn pick<T: Copy>(&mut self, from: &[T]) -> T {
+        from[self.below(from.len())]
+    }
+
+    /// 0 to most, its ends more often.
+    fn up_to(&mut self, most: u8) -> u8 {
+        match self.below(6) {
+            0 => 0,
+            1 => most,
+            2 => most.saturating_sub(1),
+            _ => self.below(usize::from(most) + 1) as u8,
+        }
+    }
+
+    /// most + 1 to 255, its ends more often.
+    fn above(&mut self, most: u8) -> u8 {
+        match self.below(4) {
+            0 | 1 => most + 1,
+            2 => 255,
+            _ => self.between(usize::from(most) + 1, 255) as u8,
+        }
+    }
+
+    /// A 32-bit count, with those where a byte carries and those at the end.
+    fn count(&mut self) -> u32 {
+        match self.below(8) {
+            0 | 1 => u32::MAX,
+            2 => u32::MAX - 1,
+            3 => self.pick(&[255, 256, 65_535, 65_536, 0x00FF_FFFF, 0x0100_0000, 0x7FFF_FFFF, 0x8000_0000]),
+            4 => self.next() as u32,
+            _ => 1 + self.below(5) as u32,
+        }
+    }
+}
+
+// ---------------------------------------------------------------------------------------------------------------------------
+// What is lent to a call
+// ---------------------------------------------------------------------------------------------------------------------------
+
+const GUARD: usize = 16;
+const GUARD_BYTE: u8 = 0xA5;
+
+/// A lent buffer between two guards, which must stay as they are.
+#[derive(Clone, PartialEq)]
+struct Buffer(Vec<u8>);
+
+impl Buffer {
+    fn new(bytes: &[u8]) -> Buffer {
+        let mut all = Vec::with_capacity(bytes.len() + 2 * GUARD);
+        all.extend_from_slice(&[GUARD_BYTE; GUARD]);
+        all.extend_from_slice(bytes);
+        all.extend_from_slice(&[GUARD_BYTE; GUARD]);
+        Buffer(all)
+    }
+
+    fn size(&self) -> usize {
+        self.0.len() - 2 * GUARD
+    }
+
+    fn bytes(&self) -> &[u8] {
+        &self.0[GUARD..self.0.len() - GUARD]
+    }
+
+    fn bytes_mut(&mut self) -> &mut [u8] {
+        let end = self.0.len() - GUARD;
+        &mut self.0[GUARD..end]
+    }
+
+    /// "a pointer whose length is 0 is not followed": then one that leads nowhere.
+    fn pointer(&mut self, nowhere: *mut u8) -> *mut u8 {
+        if self.size() == 0 {
+            nowhere
+        } else {
+            self.bytes_mut().as_mut_ptr()
+        }
+    }
+}
+
+/// The buffers that a call may write.
+#[derive(Clone)]
+struct Lent {
+    state: Buffer,
+    picture: Buffer,
+    list: Buffer,
+    reply: Buffer,
+    faults: Buffer,
+    said: Buffer,
+}
+
+impl Lent {
+    fn named(&self) -> [(&'static str, &Buffer); 6] {
+        [
+            ("said", &self.said),
+            ("state", &self.state),
+            ("picture", &self.picture),
+            ("list", &self.list),
+            ("reply", &self.reply),
+            ("register", &self.faults),
+        ]
+    }
+
+    fn said(&self) -> Said {
+        let bytes = self.said.bytes();
+        let two = |at: usize| usize::from(u16::from_le_bytes([bytes[at], bytes[at + 1]]));
+        Said {
+            number: bytes[0],
+            command: bytes[1],
+            reason: bytes[2],
+            place: bytes[3],
+            taken: two(4),
+            dropped: two(6),
+            checked: u32::from_le_bytes([bytes[8], bytes[9], bytes[10], bytes[11]]),
+            reply: usize::from(bytes[12]),
+            cells: usize::from(bytes[13]),
+        }
+    }
+}
+
+#[derive(Clone, Copy, PartialEq, Debug)]
+struct Said {
+    number: u8,
+    command: u8,
+    reason: u8,
+    place: u8,
+    taken: usize,
+    dropped: usize,
+    checked: u32,
+    reply: usize,
+    cells: usize,
+}
+
+#[derive(Clone, Copy, Debug)]
+enum Call {
+    PowerOn,
+    Line,
+    Key(u8, bool),
+    Pin(u8, bool),
+}
+
+// ---------------------------------------------------------------------------------------------------------------------------
+// Both sides, compared
+// ---------------------------------------------------------------------------------------------------------------------------
+
+struct Test {
+    part: &'static str,
+    seed: u64,
+    sequence: u64,
+    in_sequence: u64,
+    calls: u64,
+    seen: Seen,
+}
+
+impl Test {
+    /// Makes the call on both sides and gives back what both left. A difference ends the program.
+    fn call(&mut self, call: Call, lent: Lent, piece: &[u8], font: &[u8]) -> Lent {
+        self.calls += 1;
+        self.in_sequence += 1;
+        let nowhere = if self.calls.is_multiple_of(2) { std::ptr::null_mut() } else { std::ptr::without_provenance_mut(1) };
+
+        let mut theirs = lent.clone();
+        let mut their_piece = Buffer::new(piece);
+        let mut their_font = Buffer::new(font);
+        let (state_size, picture_size) = (theirs.state.size(), theirs.picture.size());
+        let (list_size, reply_size, faults_size) = (theirs.list.size(), theirs.reply.size(), theirs.faults.size());
+        let state = theirs.state.pointer(nowhere);
+        let picture = theirs.picture.pointer(nowhere);
+        let list = theirs.list.pointer(nowhere);
+        let reply = theirs.reply.pointer(nowhere);
+        let faults = theirs.faults.pointer(nowhere);
+        let said = theirs.said.pointer(nowhere);
+        let piece_pointer = their_piece.pointer(nowhere);
+        let font_pointer = their_font.pointer(nowhere);
+        // Safety: every pointer points to as many bytes as its length says, and no two buffers overlap.
+        let their_number = unsafe {
+            match call {
+                Call::PowerOn => {
+                    library::naupelys_power_on(state, state_size, picture, picture_size, font_pointer, font.len(), said)
+                }
+                Call::Line => library::naupelys_line(
+                    state,
+                    state_size,
+                    piece_pointer,
+                    piece.len(),
+                    picture,
+                    picture_size,
+                    font_pointer,
+                    font.len(),
+                    list,
+                    list_size,
+                    reply,
+                    reply_size,
+                    faults,
+                    faults_size,
+                    said,
+                ),
+                Call::Key(key, down) => library::naupelys_key(state, state_size, key, down, reply, reply_size, said),
+                Call::Pin(pin, high) => library::naupelys_pin(state, state_size, pin, high, said),
+            }
+        };
+
+        let mut ours = lent.clone();
+        let mut our_said = [0; SAID];
+        our_said.copy_from_slice(ours.said.bytes());
+        let our_number = match call {
+            Call::PowerOn => reading::power_on(ours.state.bytes_mut(), ours.picture.bytes_mut(), font, &mut our_said),
+            Call::Line => reading::line(
+                ours.state.bytes_mut(),
+                piece,
+                ours.picture.bytes_mut(),
+                font,
+                ours.list.bytes_mut(),
+                ours.reply.bytes_mut(),
+                ours.faults.bytes_mut(),
+                &mut our_said,
+            ),
+            Call::Key(key, down) => reading::key(ours.state.bytes_mut(), key, down, ours.reply.bytes_mut(), &mut our_said),
+            Call::Pin(pin, high) => reading::pin(ours.state.bytes_mut(), pin, high, &mut our_said),
+        };
+        ours.said.bytes_mut().copy_from_slice(&our_said);
+
+        if their_number != our_number {
+            self.report(call, &lent, piece, font, &ours, &theirs);
+            println!("  number returned: library {their_number}, reading {our_number}");
+            exit(1);
+        }
+        for ((name, our), (_, their)) in ours.named().into_iter().zip(theirs.named()) {
+            if our != their {
+                self.report(call, &lent, piece, font, &ours, &theirs);
+                print_difference(name, our, their);
+                exit(1);
+            }
+        }
+        if their_piece.bytes() != piece || their_font.bytes() != font {
+            self.report(call, &lent, piece, font, &ours, &theirs);
+            println!("  piece or font: written by the library");
+            exit(1);
+        }
+        self.seen.note(call, &lent, &ours);
+        ours
+    }
+
+    fn report(&self, call: Call, lent: &Lent, piece: &[u8], font: &[u8], ours: &Lent, theirs: &Lent) {
+        println!();
+        println!("DIFFERENCE in {}, seed {}, sequence {}, call {}", self.part, self.seed, self.sequence, self.in_sequence);
+        println!("  call: {call:?}");
+        print!("  sizes: state {}, piece {}, font {}", lent.state.size(), piece.len(), font.len());
+        for (name, buffer) in &lent.named()[2..] {
+            print!(", {name} {}", buffer.size());
+        }
+        println!();
+        if let [count, held @ ..] = lent.state.bytes() {
+            println!("  held before: {count}, {}", hex(&held[..held.len().min(usize::from(*count).min(25))]));
+        }
+        if matches!(call, Call::Line) {
+            println!("  piece: {}", hex(piece));
+        }
+        println!("  library said: {:?}", theirs.said());
+        println!("  reading said: {:?}", ours.said());
+    }
+}
+
+fn hex(bytes: &[u8]) -> String {
+    let mut text: String = bytes.iter().take(64).map(|byte| format!("{byte:02X} ")).collect();
+    if bytes.len() > 64 {
+        text += "...";
+    }
+    text
+}
+
+fn print_difference(name: &str, ours: &Buffer, theirs: &Buffer) {
+    let different: Vec<usize> = (0..ours.0.len()).filter(|&at| ours.0[at] != theirs.0[at]).collect();
+    let at = different[0];
+    let field = if name == "state" && at >= GUARD { field_of_state(at - GUARD) } else { "" };
+    println!(
+        "  {name}, offset {} {field}: library {}, reading {} ({} bytes differ)",
+        at as isize - GUARD as isize,
+        theirs.0[at],
+        ours.0[at],
+        different.len()
+    );
+}
+
+fn field_of_state(offset: usize) -> &'static str {
+    match offset {
+        0 => "(held count)",
+        1..=25 => "(held bytes)",
+        26..=194 => "(live settings)",
+        195..=363 => "(boot state)",
+        364..=366 => "(keys)",
+        367..=371 => "(last levels)",
+        372..=376 => "(fell)",
+        377..=381 => "(rose)",
+        382..=397 => "(flash)",
+        398..=401 => "(unfiled)",
+        _ => "(behind)",
+    }
+}
+
+// ---------------------------------------------------------------------------------------------------------------------------
+// What was seen, so that a broken generator cannot pass
+// ---------------------------------------------------------------------------------------------------------------------------
+
+const COMMANDS: [u8; 18] = [0, 1, 2, 3, 4, 5, 6, 9, 10, 11, 12, 13, 14, 23, 24, 31, 34, 35];
+
+struct Seen {
+    /// By call, in the order power-on, line, key, pin.
+    numbers: [[u64; 19]; 4],
+    /// By command.
+    done: [u64; 64],
+    refused: [u64; 64],
+    reasons: [u64; 6],
+    /// By command, reason and place.
+    keys: BTreeMap<[u8; 3], u64>,
+    reports: [u64; 13],
+    no_report: u64,
+    held: [u64; 26],
+    other: BTreeMap<&'static str, u64>,
+}
+
+/// Further things that have to be seen.
+const OTHER: [&str; 15] = [
+    "count raised",
+    "free record taken",
+    "unfiled, no room",
+    "unfiled, count full",
+    "unfiled at its end",
+    "one cell listed",
+    "80 cells listed",
+    "text changed, none listed",
+    "glyph changed, none listed",
+    "glyph changed, cells listed",
+    "reboot lists cells",
+    "glyphs and codes changed, none listed",
+    "packet from an empty piece",
+    "above 65,535 checked",
+    "above 4,000 dropped",
+];
+
+impl Seen {
+    fn nothing() -> Seen {
+        Seen {
+            numbers: [[0; 19]; 4],
+            done: [0; 64],
+            refused: [0; 64],
+            reasons: [0; 6],
+            keys: BTreeMap::new(),
+            reports: [0; 13],
+            no_report: 0,
+            held: [0; 26],
+            other: BTreeMap::new(),
+        }
+    }
+
+    fn note(&mut self, call: Call, before: &Lent, after: &Lent) {
+        let said = after.said();
+        let kind = match call {
+            Call::PowerOn => 0,
+            Call::Line => 1,
+            Call::Key(..) => 2,
+            Call::Pin(..) => 3,
+        };
+        self.numbers[kind][usize::from(said.number)] += 1;
+        if let (Call::Key(..), reading::DONE) = (call, said.number) {
+            match said.reply {
+                0 => self.no_report += 1,
+                _ => self.reports[usize::from(after.reply.bytes()[2])] += 1,
+            }
+        }
+        if !matches!(call, Call::Line) || said.number > reading::REFUSED {
+            return;
+        }
+        let command = usize::from(said.command);
+        self.held[usize::from(after.state.bytes()[0])] += 1;
+        match said.number {
+            reading::DONE => self.done[command] += 1,
+            reading::REFUSED => {
+                self.refused[command] += 1;
+                self.reasons[usize::from(said.reason)] += 1;
+                *self.keys.entry([said.command, said.reason, said.place]).or_default() += 1;
+            }
+            _ => {}
+        }
+        let (old, new) = (before.state.bytes(), after.state.bytes());
+        let glyph = 9;
+        let mut other = |name: &'static str, seen: bool| *self.other.entry(name).or_default() += u64::from(seen);
+        if said.number == reading::REFUSED {
+            let (old_register, new_register) = (before.faults.bytes(), after.faults.bytes());
+            let record = (0..64).find(|i| old_register[7 * i..7 * i + 7] != new_register[7 * i..7 * i + 7]);
+            let was_free = record.is_some_and(|i| old_register[7 * i + 3..7 * i + 7] == [0; 4]);
+            let any_free = old_register.chunks(7).any(|record| record[3..] == [0; 4]);
+            let key = [said.command, said.reason, said.place];
+            let full_match = old_register.chunks(7).any(|record| record[..3] == key && record[3..] == [255; 4]);
+            let at_end = old[398..] == [255; 4];
+            other("count raised", record.is_some() && !was_free);
+            other("free record taken", was_free);
+            other("unfiled, no room", record.is_none() && !any_free && !full_match && !at_end);
+            other("unfiled, count full", record.is_none() && full_match && !at_end);
+            other("unfiled at its end", record.is_none() && at_end);
+        }
+        other("one cell listed", said.cells == 1);
+        other("80 cells listed", said.cells == 80);
+        other("text changed, none listed", said.cells == 0 && old[26..106] != new[26..106]);
+        other("glyph changed, none listed", said.cells == 0 && old[106..170] != new[106..170]);
+        other("glyph changed, cells listed", said.cells > 0 && command == glyph);
+        other("reboot lists cells", said.cells > 0 && command == 5);
+        let both = old[26..106] != new[26..106] && old[106..170] != new[106..170];
+        other("glyphs and codes changed, none listed", said.cells == 0 && both);
+        other("packet from an empty piece", said.number > reading::WAITING && said.taken == 0);
+        other("above 65,535 checked", said.checked > 65_535);
+        other("above 4,000 dropped", said.dropped > 4_000);
+    }
+
+    /// Prints the counts; gives what was expected and not seen.
+    fn print(&self) -> Vec<String> {
+        let mut missing = Vec::new();
+        let expected: [(&str, &[usize]); 4] = [
+            ("power-on", &[3, 10, 12, 13]),
+            ("line", &[1, 2, 3, 4, 10, 11, 12, 13, 14, 15, 16]),
+            ("key", &[3, 10, 15, 17, 18]),
+            ("pin", &[3, 10, 17]),
+        ];
+        for (kind, (name, numbers)) in expected.into_iter().enumerate() {
+            print!("answers, {name}:");
+            for &number in numbers {
+                print!(" {number}: {};", self.numbers[kind][number]);
+                if self.numbers[kind][number] == 0 {
+                    missing.push(format!("{name} answering {number}"));
+                }
+            }
+            println!();
+        }
+        print!("commands, done/refused:");
+        for command in COMMANDS {
+            let at = usize::from(command);
+            print!(" {command}: {}/{};", self.done[at], self.refused[at]);
+            if self.done[at] == 0 {
+                missing.push(format!("command {command} done"));
+            }
+            // Command 0 allows every packet.
+            if self.refused[at] == 0 && command != 0 {
+                missing.push(format!("command {command} refused"));
+            }
+        }
+        let unknown = (0..64u8).filter(|code| !COMMANDS.contains(code));
+        println!(" unknown: {}", unknown.map(|code| self.refused[usize::from(code)]).sum::<u64>());
+        print!("reasons:");
+        for reason in 1..6 {
+            print!(" {reason}: {};", self.reasons[reason]);
+            if self.reasons[reason] == 0 {
+                missing.push(format!("reason {reason}"));
+            }
+        }
+        let keys = possible_keys();
+        for key in &keys {
+            if !self.keys.contains_key(key) {
+                missing.push(format!("a refusal with command, reason, place {key:?}"));
+            }
+        }
+        println!(" keys: {} of {}", self.keys.len(), keys.len());
+        print!("key reports:");
+        for report in 1..13 {
+            print!(" {report}: {};", self.reports[report]);
+            if self.reports[report] == 0 {
+                missing.push(format!("key report {report}"));
+            }
+        }
+        println!(" none: {}", self.no_report);
+        for (count, &seen) in self.held.iter().enumerate() {
+            if seen == 0 {
+                missing.push(format!("{count} bytes held"));
+            }
+        }
+        let names: Vec<String> =
+            OTHER.iter().map(|name| format!("{name}: {}", self.other.get(name).copied().unwrap_or(0))).collect();
+        println!("further: {}", names.join("; "));
+        for name in OTHER {
+            if self.other.get(name).copied().unwrap_or(0) == 0 {
+                missing.push(name.to_string());
+            }
+        }
+        missing
+    }
+}
+
+/// Every command, reason and place that a refusal can have.
+fn possible_keys() -> Vec<[u8; 3]> {
+    let mut keys: Vec<[u8; 3]> = (0..64).filter(|code| !COMMANDS.contains(code)).map(|code| [code, 1, 0]).collect();
+    keys.extend(COMMANDS[1..].iter().map(|&code| [code, 2, 1]));
+    for (code, places) in [(9, 9), (10, 1), (11, 2), (12, 1), (13, 1), (14, 1), (23, 2), (31, 2), (34, 3), (35, 1)] {
+        keys.extend((0..places).map(|index| [code, 3, 2 + index]));
+    }
+    keys.extend((1..20).map(|column| [31, 4, 24 - column]));
+    keys.push([5, 5, 2]);
+    keys
+}
+
+// ---------------------------------------------------------------------------------------------------------------------------
+// Bytes of the line
+// ---------------------------------------------------------------------------------------------------------------------------
+
+fn packet(kind: u8, data: &[u8]) -> Vec<u8> {
+    let mut bytes = vec![kind, data.len() as u8];
+    bytes.extend_from_slice(data);
+    let sum = checksum(&bytes);
+    bytes.extend_from_slice(&sum.to_le_bytes());
+    bytes
+}
+
+/// A code to write: special glyphs often, and 32 and 96, which draw alike in the program's font.
+fn code(rng: &mut Rng) -> u8 {
+    match rng.below(10) {
+        0..=3 => rng.below(8) as u8,
+        4 | 5 => rng.pick(&[32, 96, 160, 224]),
+        6 => rng.pick(&[7, 8, 9, 255, 63, 64, 72]),
+        _ => rng.byte(),
+    }
+}
+
+/// Data that the command allows, at the ends of the ranges more often.
+fn honest_data(rng: &mut Rng, command: u8) -> Vec<u8> {
+    match command {
+        0 => {
+            let n = rng.up_to(22);
+            rng.bytes(usize::from(n))
+        }
+        2 => rng.bytes(16),
+        5 => vec![8, 18, 99],
+        9 => {
+            let mut data = vec![rng.up_to(7)];
+            let kind = rng.below(4);
+            let same = rng.up_to(63);
+            for line in 0..8 {
+                data.push(match kind {
+                    0 => same,
+                    1 => 63 * u8::from(line >= same % 9),
+                    _ => rng.up_to(63),
+                });
+            }
+            data
+        }
+        10 => match rng.flag() {
+            true => vec![64 + rng.up_to(56)],
+            false => vec![128 + 32 * rng.up_to(3) + rng.up_to(12)],
+        },
+        11 => vec![rng.up_to(19), rng.up_to(3)],
+        12 => vec![rng.up_to(4)],
+        13 => vec![rng.up_to(254)],
+        14 => vec![rng.up_to(100)],
+        23 => vec![rng.up_to(63), rng.up_to(63)],
+        31 => {
+            let column = rng.up_to(19);
+            let mut data = vec![column, rng.up_to(3)];
+            let n = 1 + rng.up_to(19 - column);
+            let one = code(rng);
+            let all_one = rng.one_in(4);
+            data.extend((0..n).map(|_| if all_one { one } else { code(rng) }));
+            data
+        }
+        34 => {
+            let mut data = vec![rng.up_to(12), rng.up_to(100)];
+            if data[0] <= 4 && rng.flag() {
+                data.push(rng.pick(&[0, 1, 2, 3, 4, 5, 7, 8, 9, 10, 11, 12, 13, 15]));
+            }
+            data
+        }
+        35 => vec![rng.up_to(12)],
+        _ => Vec::new(),
+    }
+}
+
+/// Data of an allowed length that the command does not allow, if there is any.
+fn wrong_data(rng: &mut Rng, command: u8) -> Vec<u8> {
+    let mut data = honest_data(rng, command);
+    let times = if rng.one_in(4) { 3 } else { 1 };
+    for _ in 0..times {
+        match command {
+            5 => match rng.below(4) {
+                0 => data = vec![12, 28, 97],
+                1 => data = vec![3, 11, 95],
+                _ => {
+                    let index = rng.below(3);
+                    data[index] ^= 1 + rng.below(255) as u8;
+                }
+            },
+            9 => {
+                let index = rng.below(9);
+                data[index] = if index == 0 { rng.above(7) } else { rng.above(63) };
+            }
+            10 => {
+                data[0] = match rng.below(4) {
+                    0 => rng.up_to(63),
+                    1 => rng.between(121, 127) as u8,
+                    2 => 128 + 32 * rng.up_to(3) + 13,
+                    _ => 128 + 32 * rng.up_to(3) + 13 + rng.up_to(18),
+                }
+            }
+            11 | 31 => match rng.below(if command == 31 { 4 } else { 2 }) {
+                0 => data[0] = rng.above(19),
+                1 => data[1] = rng.above(3),
+                _ => {
+                    data[0] = rng.between(1, 19) as u8;
+                    let room = 20 - usize::from(data[0]);
+                    let n = if rng.flag() { room + 1 } else { rng.between(room + 1, 20) };
+                    data.resize(2 + n, code(rng));
+                }
+            },
+            12 => data[0] = rng.above(4),
+            13 => data[0] = 255,
+            14 => data[0] = rng.above(100),
+            23 => {
+                let index = rng.below(2);
+                data[index] = rng.above(63);
+            }
+            34 => match rng.below(5) {
+                0 => data[0] = rng.above(12),
+                1 => data[1] = rng.above(100),
+                2 => {
+                    data.resize(3, 0);
+                    data[0] = rng.between(5, 12) as u8;
+                    data[2] = rng.up_to(15);
+                }
+                _ => {
+                    data.resize(3, 0);
+                    data[0] = rng.up_to(4);
+                    data[2] = if rng.flag() { rng.pick(&[6, 14]) } else { rng.above(15) };
+                }
+            },
+            35 => data[0] = rng.above(12),
+            _ => {}
+        }
+    }
+    data
+}
+
+fn any_packet(rng: &mut Rng) -> Vec<u8> {
+    // Those that change the picture and the boot state come more often.
+    let command = match rng.below(8) {
+        0 => rng.pick(&[4, 5, 6]),
+        1 => 9,
+        2 | 3 => 31,
+        _ => rng.pick(&COMMANDS),
+    };
+    match rng.below(16) {
+        0..=8 => packet(command, &honest_data(rng, command)),
+        9..=11 => packet(command, &wrong_data(rng, command)),
+        12 => {
+            let n = rng.up_to(22);
+            packet(command, &rng.bytes(usize::from(n)))
+        }
+        13 => {
+            let n = if rng.flag() { 0 } else { rng.up_to(22) };
+            packet(rng.below(64) as u8, &rng.bytes(usize::from(n)))
+        }
+        14 => packet(command | rng.pick(&[64, 128, 192]), &honest_data(rng, command)),
+        _ => {
+            let n = rng.up_to(22);
+            packet(rng.byte(), &rng.bytes(usize::from(n)))
+        }
+    }
+}
+
+fn damage(rng: &mut Rng, bytes: &mut Vec<u8>) {
+    let at = rng.below(bytes.len());
+    let last = bytes.len() - 1;
+    match rng.below(7) {
+        0 => bytes[at] ^= 1 << rng.below(8),
+        1 => bytes[at] = rng.byte(),
+        2 => {
+            bytes.remove(at);
+        }
+        3 => bytes.insert(at, rng.byte()),
+        4 => bytes.truncate(at),
+        5 => bytes.swap(last - 1, last),
+        _ => {
+            bytes[last - 1] ^= 255;
+            bytes[last] ^= 255;
+        }
+    }
+}
+
+/// A stretch of the line: packets, damage, noise, runs.
+fn stretch(rng: &mut Rng) -> Vec<u8> {
+    match rng.below(24) {
+        0..=13 => any_packet(rng),
+        14 | 15 => {
+            let mut bytes = any_packet(rng);
+            damage(rng, &mut bytes);
+            bytes
+        }
+        16 | 17 => {
+            let n = rng.between(1, 40);
+            rng.bytes(n)
+        }
+        18 | 19 => {
+            let n = rng.between(1, 40);
+            (0..n).map(|_| rng.up_to(24)).collect()
+        }
+        20 => vec![rng.pick(&[0x16, 0x16, 0x17, 0x15, 0, 1, 2, 255]); rng.between(1, 60)],
+        21 => vec![rng.byte(); rng.between(1, 60)],
+        _ => {
+            // Packets inside a candidate that is none.
+            let mut bytes = vec![rng.byte(), rng.up_to(22)];
+            bytes.extend(any_packet(rng));
+            bytes.extend(any_packet(rng));
+            bytes
+        }
+    }
+}
+
+fn traffic(rng: &mut Rng, at_least: usize) -> Vec<u8> {
+    let mut bytes = Vec::new();
+    while bytes.len() < at_least {
+        bytes.extend(stretch(rng));
+    }
+    bytes
+}
+
+// ---------------------------------------------------------------------------------------------------------------------------
+// States, registers, fonts
+// ---------------------------------------------------------------------------------------------------------------------------
+
+/// Where the live settings and the boot state stand in the state, and how long they are.
+const LIVE: usize = 26;
+const BOOT: usize = 195;
+const SETTINGS: usize = 169;
+
+/// The highest value in range of a settings byte; 254 for the contrast. Text is free.
+fn settings_most(offset: usize) -> Option<u8> {
+    match offset {
+        80..=143 => Some(63),
+        144 => Some(19),
+        145 => Some(3),
+        146 => Some(4),
+        147 => Some(254),
+        148 => Some(100),
+        149 | 150 => Some(63),
+        151..=163 => Some(100),
+        164..=168 => Some(15),
+        _ => None,
+    }
+}
+
+/// The same for a byte of the state; held bytes, text, flash and unfiled are free.
+fn state_most(offset: usize) -> Option<u8> {
+    match offset {
+        0 => Some(25),
+        LIVE..=194 => settings_most(offset - LIVE),
+        BOOT..=363 => settings_most(offset - BOOT),
+        364..=366 => Some(63),
+        367..=381 => Some(1),
+        _ => None,
+    }
+}
+
+fn is_config(offset: usize) -> bool {
+    (LIVE + 164..LIVE + SETTINGS).contains(&offset) || (BOOT + 164..BOOT + SETTINGS).contains(&offset)
+}
+
+fn random_state(rng: &mut Rng) -> Vec<u8> {
+    let mut state = rng.bytes(STATE);
+    for (offset, byte) in state.iter_mut().enumerate() {
+        if let Some(most) = state_most(offset) {
+            *byte = rng.up_to(most);
+            if is_config(offset) && *byte & 7 == 6 {
+                *byte += 1;
+            }
+        }
+    }
+    for start in [LIVE, BOOT] {
+        match rng.below(4) {
+            0 => {}
+            1 => state[start..start + 80].fill(code(rng)),
+            _ => state[start..start + 80].iter_mut().for_each(|byte| *byte = code(rng)),
+        }
+        if rng.one_in(3) {
+            // Glyphs that draw alike.
+            let glyph: Vec<u8> = (0..8).map(|_| rng.up_to(63)).collect();
+            for g in 0..8 {
+                if rng.flag() {
+                    state[start + 80 + 8 * g..start + 88 + 8 * g].copy_from_slice(&glyph);
+                }
+            }
+        }
+    }
+    match rng.below(4) {
+        0 => state.copy_within(LIVE..BOOT, BOOT),
+        1 => {
+            // A boot state that draws the same by other codes: glyph g stands at g + 1.
+            state.copy_within(LIVE..BOOT, BOOT);
+            state[BOOT + 80..BOOT + 144].rotate_right(8);
+            state[BOOT..BOOT + 80].iter_mut().filter(|code| **code < 8).for_each(|code| *code = (*code + 1) % 8);
+        }
+        _ => {}
+    }
+    let count = if rng.one_in(3) { 0 } else { rng.up_to(25) };
+    state[0] = count;
+    match rng.below(3) {
+        0 => {}
+        1 => state[1..26].copy_from_slice(&traffic(rng, 25)[..25]),
+        _ => state[1..26].fill(rng.pick(&[0x16, 0x15, 0, 1])),
+    }
+    if rng.one_in(3) {
+        state[1 + usize::from(count)..26].fill(0);
+    }
+    let unfiled = if rng.one_in(3) { 0 } else { rng.count() };
+    state[398..].copy_from_slice(&unfiled.to_le_bytes());
+    state
+}
+
+/// Pushes one value out of its range.
+fn spoil(rng: &mut Rng, state: &mut [u8]) {
+    let offset = loop {
+        // The settings have most of the bytes; the others get their turn too.
+        let offset = match rng.below(4) {
+            0 => 0,
+            1 => rng.between(364, 381),
+            2 => rng.pick(&[LIVE, BOOT]) + rng.between(144, SETTINGS - 1),
+            _ => rng.below(STATE),
+        };
+        if state_most(offset).is_some() {
+            break offset;
+        }
+    };
+    let most = state_most(offset).unwrap();
+    state[offset] = if is_config(offset) && rng.flag() { rng.pick(&[6, 14]) } else { rng.above(most) };
+}
+
+fn random_register(rng: &mut Rng) -> Vec<u8> {
+    let keys = possible_keys();
+    let mut register = vec![0; REGISTER];
+    // How many in 64 are free.
+    let free = rng.pick(&[0, 0, 0, 1, 2, 16, 60, 64]);
+    if free == 64 && rng.flag() {
+        return register;
+    }
+    let few = rng.one_in(4);
+    for record in register.chunks_mut(7) {
+        let key = match rng.below(8) {
+            0 => [rng.byte(), rng.byte(), rng.byte()],
+            _ if few => keys[rng.below(3)],
+            _ => rng.pick(&keys),
+        };
+        record[..3].copy_from_slice(&key);
+        let count = if rng.below(64) < free { 0 } else { rng.count() };
+        record[3..].copy_from_slice(&count.to_le_bytes());
+    }
+    register
+}
+
+/// "a font whose rows for code c all equal c mod 64".
+fn program_font() -> Vec<u8> {
+    (0..FONT).map(|at| (at / 8) as u8 & 63).collect()
+}
+
+fn random_font(rng: &mut Rng) -> Vec<u8> {
+    let mut font = program_font();
+    match rng.below(6) {
+        0 | 1 => {}
+        2 | 3 => rng.fill(&mut font),
+        4 => {
+            // Few drawings, with top bits that draw nothing.
+            let rows = rng.bytes(4);
+            for code in font.chunks_mut(8) {
+                let row = rng.pick(&rows) & 63;
+                code.iter_mut().for_each(|line| *line = row | rng.byte() & 192);
+            }
+        }
+        _ => {
+            // Codes that differ in one line at most.
+            let row = rng.byte();
+            font.fill(row);
+            for code in font.chunks_mut(8) {
+                code[rng.below(8)] = row ^ 1 << rng.below(8);
+            }
+        }
+    }
+    font
+}
+
+/// Another size than the right one.
+fn wrong_size(rng: &mut Rng, right: usize) -> usize {
+    match rng.below(10) {
+        0 | 1 => right - 1,
+        2 | 3 => right + 1,
+        4 => 0,
+        5 => 2 * right,
+        6 => right + 256,
+        7 if rng.one_in(8) => right + 65_536,
+        _ => rng.pick(&[1, right / 2, right - 2, right + 2]),
+    }
+}
+
+// ---------------------------------------------------------------------------------------------------------------------------
+// A panel with all that is lent to it
+// ---------------------------------------------------------------------------------------------------------------------------
+
+struct Desk {
+    rng: Rng,
+    state: Vec<u8>,
+    picture: Vec<u8>,
+    register: Vec<u8>,
+    font: Vec<u8>,
+    reply: Vec<u8>,
+    list: Vec<u8>,
+    queue: Vec<u8>,
+}
+
+impl Desk {
+    fn random(mut rng: Rng) -> Desk {
+        Desk {
+            state: random_state(&mut rng),
+            picture: rng.bytes(PICTURE),
+            register: random_register(&mut rng),
+            font: random_font(&mut rng),
+            reply: Vec::new(),
+            list: Vec::new(),
+            queue: Vec::new(),
+            rng,
+        }
+    }
+
+    /// All as it stands, with junk in list, reply and said.
+    fn lend(&mut self) -> Lent {
+        Lent {
+            state: Buffer::new(&self.state),
+            picture: Buffer::new(&self.picture),
+            list: Buffer::new(&self.rng.bytes(LIST)),
+            reply: Buffer::new(&self.rng.bytes(REPLY)),
+            faults: Buffer::new(&self.register),
+            said: Buffer::new(&self.rng.bytes(SAID)),
+        }
+    }
+
+    /// Makes a call and keeps what it left.
+    fn call(&mut self, test: &mut Test, call: Call, piece: &[u8]) -> Said {
+        let lent = self.lend();
+        let left = test.call(call, lent, piece, &self.font);
+        self.state.copy_from_slice(left.state.bytes());
+        self.picture.copy_from_slice(left.picture.bytes());
+        self.register.copy_from_slice(left.faults.bytes());
+        let said = left.said();
+        self.reply = left.reply.bytes()[..said.reply].to_vec();
+        self.list = left.list.bytes()[..said.cells].to_vec();
+        said
+    }
+
+    /// Makes a call that has something wrong, on copies: bit 0 state, 1 piece, 2 picture, 3 font, 4 list, 5 reply, 6 register.
+    fn call_with_wrong(&mut self, test: &mut Test, call: Call, piece: &[u8], wrong: usize) -> Said {
+        let mut lent = self.lend();
+        let rng = &mut self.rng;
+        let mut resized = |buffer: &[u8]| {
+            let mut bytes = buffer.to_vec();
+            let size = wrong_size(rng, bytes.len());
+            let more = rng.bytes(size.saturating_sub(bytes.len()));
+            bytes.extend(more);
+            bytes.truncate(size);
+            bytes
+        };
+        for (bit, buffer) in
+            [(0, &mut lent.state), (2, &mut lent.picture), (4, &mut lent.list), (5, &mut lent.reply), (6, &mut lent.faults)]
+        {
+            if wrong & 1 << bit != 0 {
+                *buffer = Buffer::new(&resized(buffer.bytes()));
+            }
+        }
+        let font = if wrong & 8 != 0 { resized(&self.font) } else { self.font.clone() };
+        if wrong & 1 != 0 && rng.flag() {
+            // The right size, but out of its ranges.
+            let mut state = self.state.clone();
+            for _ in 0..rng.pick(&[1, 1, 2, 5]) {
+                spoil(rng, &mut state);
+            }
+            lent.state = Buffer::new(&state);
+        }
+        let piece = if wrong & 2 != 0 {
+            let size = match rng.below(8) {
+                0..=2 => PIECE_MOST + 1,
+                3 => 2 * PIECE_MOST,
+                4 => PIECE_MOST + rng.between(2, 300),
+                5 => 65_536 + rng.between(0, 20),
+                _ => rng.between(PIECE_MOST + 1, 9000),
+            };
+            let mut long = traffic(rng, 40);
+            long.resize(size, 0x16);
+            long
+        } else {
+            piece.to_vec()
+        };
+        test.call(call, lent, &piece, &font).said()
+    }
+
+    fn any_call(&mut self) -> Call {
+        let rng = &mut self.rng;
+        match rng.below(6) {
+            0 => Call::Key(rng.up_to(5), rng.flag()),
+            1 => Call::Pin(rng.up_to(4), rng.flag()),
+            2 if rng.one_in(3) => Call::Key(rng.above(5), rng.flag()),
+            2 if rng.flag() => Call::Pin(rng.above(4), rng.flag()),
+            2 => Call::PowerOn,
+            _ => Call::Line,
+        }
+    }
+
+    /// One step of a random sequence.
+    fn step(&mut self, test: &mut Test) {
+        match self.rng.below(100) {
+            0..=9 => {
+                let key = if self.rng.one_in(12) { self.rng.above(5) } else { self.rng.up_to(5) };
+                let down = self.rng.flag();
+                self.call(test, Call::Key(key, down), &[]);
+            }
+            10..=17 => {
+                let pin = if self.rng.one_in(12) { self.rng.above(4) } else { self.rng.up_to(4) };
+                let high = self.rng.flag();
+                self.call(test, Call::Pin(pin, high), &[]);
+            }
+            18 if self.rng.one_in(3) => {
+                self.call(test, Call::PowerOn, &[]);
+            }
+            19..=23 => {
+                let call = self.any_call();
+                let wrong = match self.rng.below(3) {
+                    0 => self.rng.below(128),
+                    _ => 1 << self.rng.below(7),
+                };
+                let n = self.rng.below(30).min(self.queue.len());
+                let piece = self.queue[..n].to_vec();
+                self.call_with_wrong(test, call, &piece, wrong);
+            }
+            24 => self.font = random_font(&mut self.rng),
+            25 => self.rng.fill(&mut self.picture),
+            26 if self.rng.one_in(3) => self.state = random_state(&mut self.rng),
+            27 if self.rng.one_in(3) => self.register = random_register(&mut self.rng),
+            _ => self.next_piece(test),
+        }
+    }
+
+    /// The next piece of the queue, cut somehow; the call ends where it will.
+    fn next_piece(&mut self, test: &mut Test) {
+        if self.queue.is_empty() {
+            let n = if self.rng.one_in(300) { 5000 } else { self.rng.between(1, 80) };
+            self.queue = traffic(&mut self.rng, n);
+        }
+        let all = self.queue.len().min(PIECE_MOST);
+        let n = match self.rng.below(8) {
+            0 => 0,
+            1 => 1,
+            2 => self.rng.between(1, 4),
+            3 => self.rng.between(1, 30),
+            _ => all,
+        };
+        let piece = self.queue[..n.min(all)].to_vec();
+        let said = self.call(test, Call::Line, &piece);
+        self.queue.drain(..said.taken);
+    }
+}
+
+fn sequence(test: &mut Test, seed: u64, number: u64) {
+    test.seed = seed;
+    test.sequence = number;
+    test.in_sequence = 0;
+    let mut desk = Desk::random(Rng::for_sequence(seed, number));
+    if desk.rng.flag() {
+        desk.call(test, Call::PowerOn, &[]);
+        if desk.rng.flag() {
+            desk.register.fill(0);
+        }
+    }
+    for _ in 0..desk.rng.between(10, 70) {
+        desk.step(test);
+    }
+}
+
+// ---------------------------------------------------------------------------------------------------------------------------
+// The worked cases of the paper
+// ---------------------------------------------------------------------------------------------------------------------------
+
+fn expect<T: PartialEq + std::fmt::Debug>(case: &str, got: T, want: T) {
+    if got != want {
+        println!("\nCASE {case}: both gave {got:?}, the paper says {want:?}");
+        exit(1);
+    }
+}
+
+/// Name, bytes, what is said, reply, held afterwards.
+type LineCase = (&'static str, &'static [u8], Said, &'static [u8], u8);
+
+/// Name, command, data; number, reason and place.
+type CommandCase = (&'static str, u8, &'static [u8], (u8, u8, u8));
+
+/// P1 to P10, the cases behind them, and the published checksums. Gives how many.
+fn worked_cases(test: &mut Test) -> u64 {
+    test.part = "the worked cases";
+    let mut cases = 0;
+    let mut rng = Rng(1);
+    let mut at_power_on = |test: &mut Test| {
+        let mut desk = Desk::random(Rng(rng.next()));
+        desk.font = program_font();
+        desk.register.fill(0);
+        desk.call(test, Call::PowerOn, &[]);
+        desk
+    };
+    let none = Said { number: 1, command: 0, reason: 0, place: 0, taken: 0, dropped: 0, checked: 0, reply: 0, cells: 0 };
+
+    let rows: [LineCase; 7] = [
+        (
+            "P1",
+            &[0x00, 0x00, 0x47, 0x0F],
+            Said { number: 3, taken: 4, checked: 2, reply: 4, ..none },
+            &[0x40, 0x00, 0x21, 0x49],
+            0,
+        ),
+        (
+            "P2",
+            &[0x06, 0x00, 0x97, 0x5B],
+            Said { number: 3, command: 6, taken: 4, checked: 2, reply: 4, ..none },
+            &[0x46, 0x00, 0xF1, 0x1D],
+            0,
+        ),
+        (
+            "P3",
+            &[0x06, 0x01, 0x00, 0xCD, 0x09],
+            Said { number: 4, command: 6, reason: 2, place: 1, taken: 5, checked: 3, reply: 4, ..none },
+            &[0xC6, 0x00, 0x3D, 0x91],
+            0,
+        ),
+        (
+            "P4",
+            &[0xFF, 0x00, 0x00, 0x47, 0x0F],
+            Said { number: 3, taken: 5, dropped: 1, checked: 4, reply: 4, ..none },
+            &[0x40, 0x00, 0x21, 0x49],
+            0,
+        ),
+        ("P5", &[0x40, 0x00, 0x21, 0x49], Said { number: 2, taken: 4, checked: 2, ..none }, &[], 0),
+        ("P6", &[0x00, 0x16], Said { number: 1, taken: 2, ..none }, &[], 2),
+        ("P7", &[0x00, 0x17], Said { number: 1, taken: 2, dropped: 1, ..none }, &[], 1),
+    ];
+    for (name, bytes, said, reply, held) in rows {
+        let mut desk = at_power_on(test);
+        expect(name, desk.call(test, Call::Line, bytes), said);
+        expect(name, desk.reply.clone(), reply.to_vec());
+        expect(name, desk.state[0], held);
+        cases += 1;
+    }
+
+    let rows: [CommandCase; 17] = [
+        ("P8, contrast 254", 13, &[254], (3, 0, 0)),
+        ("P8, contrast 255", 13, &[255], (4, 3, 2)),
+        ("P9, one character", 31, &[19, 0, 65], (3, 0, 0)),
+        ("P9, two", 31, &[19, 0, 65, 65], (4, 4, 5)),
+        ("glyph 7", 9, &[7, 0, 0, 0, 0, 0, 0, 0, 0], (3, 0, 0)),
+        ("glyph 8", 9, &[8, 0, 0, 0, 0, 0, 0, 0, 0], (4, 3, 2)),
+        ("row byte 63", 9, &[0, 0, 0, 0, 0, 0, 0, 0, 63], (3, 0, 0)),
+        ("row byte 64", 9, &[0, 0, 0, 0, 0, 0, 0, 0, 64], (4, 3, 10)),
+        ("address 120", 10, &[120], (3, 0, 0)),
+        ("address 121", 10, &[121], (4, 3, 2)),
+        ("reboot", 5, &[8, 18, 99], (3, 0, 0)),
+        ("reset of the host", 5, &[12, 28, 97], (4, 5, 2)),
+        ("power of the host", 5, &[3, 11, 95], (4, 5, 2)),
+        ("config of pin 5", 34, &[5, 0, 0], (4, 3, 4)),
+        ("config 6", 34, &[0, 0, 6], (4, 3, 4)),
+        ("a fan command", 17, &[0, 0, 0, 0], (4, 1, 0)),
+        ("text of 20", 31, &[0, 3, 1, 2, 3, 4, 5, 6, 7, 8, 9, 10, 11, 12, 13, 14, 15, 16, 17, 18, 19, 20], (3, 0, 0)),
+    ];
+    for (name, command, data, want) in rows {
+        let mut desk = at_power_on(test);
+        let said = desk.call(test, Call::Line, &packet(command, data));
+        expect(name, (said.number, said.reason, said.place), want);
+        cases += 1;
+    }
+
+    let mut desk = at_power_on(test);
+    let write = packet(31, &[3, 1, 0]);
+    let glyph = packet(9, &[0, 1, 1, 1, 1, 1, 1, 1, 1]);
+    for (step, bytes, list) in [("text", &write, vec![23]), ("glyph", &glyph, vec![23]), ("again", &glyph, vec![])] {
+        expect("P10", (step, desk.call(test, Call::Line, bytes).number), (step, 3));
+        expect("P10", (step, desk.list.clone()), (step, list));
+        cases += 1;
+    }
+
+    // The line program's sample: offset, number, command, reason and place of each event.
+    let bytes = [0xFF, 0x00, 0x00, 0x47, 0x0F, 0x06, 0x01, 0x00, 0xCD, 0x09];
+    let mut desk = at_power_on(test);
+    let (mut read, mut dropped, mut checked, mut events) = (0, 0, 0, Vec::new());
+    loop {
+        let said = desk.call(test, Call::Line, &bytes[read..]);
+        (read, dropped, checked) = (read + said.taken, dropped + said.dropped, checked + said.checked);
+        if said.number == 1 {
+            break;
+        }
+        let length = if said.reason == 2 { 5 } else { 4 };
+        events.push((read - length, said.number, said.command, said.reason, said.place, said.cells));
+    }
+    expect("the program's sample", events, vec![(1, 3, 0, 0, 0, 0), (5, 4, 6, 2, 1, 0)]);
+    expect("the program's sample", (read, dropped, desk.state[0], checked), (10, 1, 0, 7));
+
+    expect("checksum of 123456789", checksum(b"123456789"), 0x906E);
+    expect("checksum of the data sheets", checksum(b"\x07\x10This is a test. "), 0x93FA);
+    expect("possible keys", possible_keys().len(), 106);
+    cases + 4
+}
+
+// ---------------------------------------------------------------------------------------------------------------------------
+// The sweeps
+// ---------------------------------------------------------------------------------------------------------------------------
+
+/// Goes through single bytes, sizes and numbers one by one.
+fn sweeps(test: &mut Test) {
+    let mut number = 0;
+    let mut fresh = |test: &mut Test, part: &'static str| {
+        number += 1;
+        test.part = part;
+        test.sequence = number;
+        test.in_sequence = 0;
+        Desk::random(Rng::for_sequence(FIXED_SEED, number))
+    };
+
+    for offset in 0..STATE {
+        let mut desk = fresh(test, "the sweep over states");
+        let base = random_state(&mut desk.rng);
+        for value in 0..=255 {
+            let key = Call::Key(desk.rng.up_to(5), desk.rng.flag());
+            let pin = Call::Pin(desk.rng.up_to(4), desk.rng.flag());
+            let piece = if value % 4 == 0 { any_packet(&mut desk.rng) } else { Vec::new() };
+            for call in [Call::Line, key, pin] {
+                desk.state.copy_from_slice(&base);
+                desk.state[offset] = value;
+                desk.call(test, call, &piece);
+            }
+        }
+        desk.call(test, Call::PowerOn, &[]);
+    }
+
+    for kind in 0..=255 {
+        let mut desk = fresh(test, "the sweep over types and lengths");
+        for length in 0..=22 {
+            desk.state = random_state(&mut desk.rng);
+            desk.state[0] = 0;
+            for most in [255, 3] {
+                let data: Vec<u8> = (0..length).map(|_| desk.rng.up_to(most)).collect();
+                desk.call(test, Call::Line, &packet(kind, &data));
+            }
+        }
+    }
+
+    for command in COMMANDS {
+        for index in 0..22 {
+            let mut desk = fresh(test, "the sweep over data bytes");
+            for value in 0..=255 {
+                let mut data = honest_data(&mut desk.rng, command);
+                for _ in 0..20 {
+                    if data.len() <= index {
+                        data = honest_data(&mut desk.rng, command);
+                    }
+                }
+                if data.len() <= index {
+                    break;
+                }
+                if value % 16 == 0 {
+                    desk.state = random_state(&mut desk.rng);
+                    desk.state[0] = 0;
+                }
+                data[index] = value;
+                desk.call(test, Call::Line, &packet(command, &data));
+            }
+        }
+    }
+
+    for column in 0..=20 {
+        let mut desk = fresh(test, "the sweep over texts");
+        for row in 0..=4 {
+            for n in 1..=20 {
+                desk.state = random_state(&mut desk.rng);
+                desk.state[0] = 0;
+                let mut data = vec![column, row];
+                data.extend((0..n).map(|_| code(&mut desk.rng)));
+                desk.call(test, Call::Line, &packet(31, &data));
+            }
+        }
+    }
+
+    for pin in 0..=13 {
+        let mut desk = fresh(test, "the sweep over configs");
+        for config in 0..=255 {
+            desk.state[0] = 0;
+            let level = if config % 8 == 7 { 101 } else { desk.rng.up_to(100) };
+            desk.call(test, Call::Line, &packet(34, &[pin, level, config]));
+            desk.call(test, Call::Line, &packet(35, &[pin]));
+        }
+    }
+
+    for value in 0..=255 {
+        let mut desk = fresh(test, "the sweep over keys and pins");
+        for _ in 0..8 {
+            let state = random_state(&mut desk.rng);
+            for flag in [false, true] {
+                for call in [Call::Key(value, flag), Call::Pin(value, flag)] {
+                    desk.state.copy_from_slice(&state);
+                    desk.call(test, call, &[]);
+                }
+            }
+        }
+    }
+
+    for wrong in 0..128 {
+        let mut desk = fresh(test, "the sweep over sizes");
+        for _ in 0..60 {
+            desk.state = random_state(&mut desk.rng);
+            let piece = if desk.rng.one_in(4) { Vec::new() } else { any_packet(&mut desk.rng) };
+            desk.call_with_wrong(test, Call::Line, &piece, wrong);
+            let call = desk.any_call();
+            desk.call_with_wrong(test, call, &piece, wrong);
+        }
+    }
+
+    for value in 0..=255u8 {
+        let mut desk = fresh(test, "the sweep over runs");
+        for (most, size) in [(PIECE_MOST, PIECE_MOST), (7, 120), (1, 60)] {
+            desk.state = random_state(&mut desk.rng);
+            desk.queue = vec![value; size];
+            desk.queue.extend(any_packet(&mut desk.rng));
+            while !desk.queue.is_empty() {
+                let piece = desk.queue[..most.min(desk.queue.len())].to_vec();
+                let said = desk.call(test, Call::Line, &piece);
+                desk.queue.drain(..said.taken);
+            }
+        }
+        for size in [PIECE_MOST - 1, PIECE_MOST] {
+            let piece = desk.rng.bytes(size);
+            desk.call(test, Call::Line, &piece);
+        }
+    }
+}
+
+fn main() {
+    let arguments: Vec<u64> =
+        std::env::args().skip(1).map(|text| text.parse().expect("the arguments are numbers: SEED SEQUENCE")).collect();
+    let clock = SystemTime::now().duration_since(UNIX_EPOCH).map_or(1, |since| since.as_nanos() as u64);
+    let second_seed = arguments.first().copied().unwrap_or(clock);
+    let mut test = Test { part: "", seed: FIXED_SEED, sequence: 0, in_sequence: 0, calls: 0, seen: Seen::nothing() };
+
+    if let Some(&number) = arguments.get(1) {
+        test.part = "the random sequences";
+        sequence(&mut test, second_seed, number);
+        println!("seed {second_seed}, sequence {number}: {} calls, no difference", test.calls);
+        return;
+    }
+
+    println!("fixed seed {FIXED_SEED}, second seed {second_seed}");
+    std::io::stdout().flush().ok();
+    let start = Instant::now();
+    let cases = worked_cases(&mut test);
+    sweeps(&mut test);
+    let swept = test.calls;
+    test.part = "the random sequences";
+    for seed in [FIXED_SEED, second_seed] {
+        for number in 0..SEQUENCES {
+            sequence(&mut test, seed, number);
+        }
+    }
+    let missing = test.seen.print();
+    if !missing.is_empty() {
+        println!("NOT SEEN, so the generator is broken: {}", missing.join("; "));
+        exit(1);
+    }
+    println!(
+        "no difference: {cases} worked cases, {} sequences; {} calls compared, {swept} of them in cases and sweeps; {:.1} s",
+        2 * SEQUENCES,
+        test.calls,
+        start.elapsed().as_secs_f64()
+    );
+}
