@@ -5,10 +5,11 @@ use mathlib.Core.Bool.{Bool, true, _&&_}
 use mathlib.Core.List.{List, []}
 use native.Mathlib.Numerals.{add-one}
 use native.Mathlib.Omega.{arith}
-use borrow.Author.Tests.{lt-ltb, le-ltb, eqb-true}
+use borrow.Author.Tests.{lt-ltb, le-ltb, leb-true, eqb-true}
 use lib.Dec.{eqb}
 use lib.ListN.{length, getD, take}
 use lib.Seq.{take-suc, take-length}
+use Rattle.lists.specs.Tests.{_=?_, _≤?_}
 use Rattle.lists.proofs.Laws.{when-true, when-false}
 use Rattle.panel.specs.Glyphs.{eightFrom}
 use Rattle.picture.specs.Draw.{sourceOf, drawnFrom, lowSix, codeDrawn}
@@ -24,14 +25,12 @@ module _ (glyphs : List (List ℕ)) (bytes : List ℕ) (code : ℕ) where
   unfolding codeDrawn sourceOf drawnFrom
   drawn-font h = rw (when-false _ _ _ (le-ltb code 8 h))
 
-module _ (before after : List (List ℕ)) (bytes : List ℕ) (code : ℕ) where
-  -- a code that stays and draws from the font draws as it did
-  pub font-alike : 8 ≤ code → true ≡ alike 8 (codeDrawn before bytes code) (codeDrawn after bytes code)
-  font-alike h = sym (rw (drawn-font before bytes code h, drawn-font after bytes code h) (alike-self 8 (lowSix (eightFrom bytes (8 * code)))))
-
-  -- one that draws a glyph draws as it did if the glyph is as it was
-  pub glyph-alike : code < 8 → alike 8 (getD before code []) (getD after code []) ≡ alike 8 (codeDrawn before bytes code) (codeDrawn after bytes code)
-  glyph-alike h = rw (drawn-special before bytes code h, drawn-special after bytes code h)
+-- a code that stays and draws from the font draws as it did
+pub stays-alike : (before after : List (List ℕ)) (bytes : List ℕ) (a b : ℕ) → (a =? b) && (8 ≤? b) ≡ true → alike 8 (codeDrawn before bytes a) (codeDrawn after bytes b) ≡ true
+stays-alike before after bytes a b h =
+    let t = both (a =? b) (8 ≤? b) h in
+    let g = leb-true 8 b (t .1) in
+    rw (eqb-true a b (t .0), drawn-font before bytes b g, drawn-font after bytes b g) (alike-self 8 (lowSix (eightFrom bytes (8 * b))))
 
 -- two runs compared byte by byte
 pub same-turn : (a b : List ℕ) (i : ℕ) (ok : Bool) → i < length a → length a ≡ length b → (ok ≡ true → take i a ≡ take i b)

@@ -7,7 +7,7 @@ use native.Mathlib.Numerals.{add-one}
 use Rattle.lists.specs.Tests.{when_then_else_}
 use Rattle.lists.proofs.Laws.{when-true}
 use Rattle.picture.specs.Draw.{Shown, cellDrawn, put, paint}
-use Rattle.picture.specs.Repaint.{same, changedBelow, painted, Repaints}
+use Rattle.picture.specs.Repaint.{alike, same, changedBelow, painted, Repaints}
 use Rattle.picture.proofs.Changes.{alike-self}
 
 module _ (keep : ℕ → Bool) (g : ℕ → List ℕ) (p : List ℕ) (n : ℕ) where
@@ -20,6 +20,10 @@ module _ (keep : ℕ → Bool) (g : ℕ → List ℕ) (p : List ℕ) (n : ℕ) w
   paint-put h = rw (add-one, h)
 
 module _ (before after : Shown) (font : List ℕ) (n : ℕ) where
+  pub same-is : same before after font n ≡ alike 8 (cellDrawn before font n) (cellDrawn after font n)
+  unfolding same
+  same-is = refl
+
   pub unlisted : same before after font n ≡ true → changedBelow before after font (n + 1) ≡ changedBelow before after font n
   unfolding changedBelow when_then_else_
   unlisted h = rw (add-one, h)

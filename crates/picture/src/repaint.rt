@@ -1,8 +1,9 @@
 // The repaint: from the codes and glyphs before and after.
 ghost use mathlib.Core.Path.{_≡_};
-ghost use mathlib.Core.Bool.{true};
+ghost use mathlib.Core.Bool.{true, _&&_};
 ghost use Prim.Native.Nat.{_<_};
 ghost use lib.ListN.{length};
+ghost use Rattle.lists.specs.Tests.{_=?_, _≤?_};
 ghost use Rattle.lists.specs.Runs.{front};
 ghost use Rattle.picture.specs.Draw.{codeDrawn, cellDrawn, drawn, shown, shownBy};
 ghost use Rattle.picture.specs.Repaint.{alike, changed, painted, Repaints};
@@ -23,20 +24,11 @@ fn alike8(a: [u8; 8], b: [u8; 8]) -> bool
         & (a[7] == b[7])
 }
 
-// Whether a cell that shows code `a` and then `b` draws as it did. Nothing is drawn for a code that stays.
-fn draws_alike(a: u8, b: u8, before: [[u8; 8]; 8], after: [[u8; 8]; 8], font: &[u8]) -> bool
-    ensures { λ r. ⌜ r ≡ alike 8 (codeDrawn before (now (font .entry)) a) (codeDrawn after (now (font .entry)) b) ⌝ }
+// A code that stays and is not special draws as it did: the glyphs need no look.
+fn stays(a: u8, b: u8) -> bool
+    ensures { λ r. ⌜ r ≡ (a =? b) && (8 ≤? b) ⌝ }
 {
-    if a == b {
-        if 8 <= b {
-            return true;
-        }
-        let i = b as usize;
-        let old = before[i];
-        let new = after[i];
-        return alike8(old, new);
-    }
-    alike8(draw(before, font, a), draw(after, font, b))
+    (a == b) & (8 <= b)
 }
 
 // Each cell that draws otherwise is written and listed.
@@ -57,13 +49,19 @@ fn repaint_cells(
     while cell < 80 {
         let a = old[cell];
         let b = new[cell];
-        if draws_alike(a, b, before, after, font) {
+        if stays(a, b) {
             cell += 1;
         } else {
-            put_cell(picture, cell, draw(after, font, b));
-            list[listed] = cell as u8;
-            listed += 1;
-            cell += 1;
+            let was = draw(before, font, a);
+            let bytes = draw(after, font, b);
+            if alike8(was, bytes) {
+                cell += 1;
+            } else {
+                put_cell(picture, cell, bytes);
+                list[listed] = cell as u8;
+                listed += 1;
+                cell += 1;
+            }
         }
     }
     listed

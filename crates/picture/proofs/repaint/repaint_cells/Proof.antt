@@ -1,11 +1,12 @@
 use Prim.Native.Nat.{ℕ, _≤_, _-_, _+_}
 use mathlib.Core.Path.{_≡_, refl, sym, _∙_, ap}
-use lib.ListN.{length, length-set, length-append}
+use lib.ListN.{length, getD, length-set, length-append}
 use Rattle.lists.specs.Runs.{front}
 use Rattle.lists.proofs.Laws.{front-more}
 use Rattle.picture.specs.Draw.{Shown, shown, paint, cellDrawn}
 use Rattle.picture.specs.Repaint.{same, changedBelow, painted}
-use Rattle.picture.proofs.Turns.{paint-kept, paint-put, unlisted, listed}
+use Rattle.picture.proofs.Codes.{stays-alike}
+use Rattle.picture.proofs.Turns.{same-is, paint-kept, paint-put, unlisted, listed}
 use native.Mathlib.Omega.{arith}
 use borrow.Author.Needs.{needs}
 use Rattle.picture.proofs.repaint.repaint_cells.Statement.{statement}
@@ -14,7 +15,8 @@ use Rattle.picture.proofs.repaint.repaint_cells.Reads as reads
 use Rattle.picture.proofs.repaint.repaint_cells.Lts as lts
 use Rattle.picture.proofs.draw.draw.Reads as draw-reads
 use Rattle.picture.proofs.draw.put_cell.Reads as put-cell-reads
-use Rattle.picture.proofs.repaint.draws_alike.Reads as draws-alike-reads
+use Rattle.picture.proofs.repaint.alike8.Reads as alike8-reads
+use Rattle.picture.proofs.repaint.stays.Reads as stays-reads
 
 abbrev Inv-loop : tie.InvT-loop
 Inv-loop picture₀ list₀ before after font old new listed₀ cell₀ picture list listed cell =
@@ -25,9 +27,8 @@ Inv-loop picture₀ list₀ before after font old new listed₀ cell₀ picture 
 abbrev μ-loop : tie.MeasureT-loop
 μ-loop picture₀ list₀ before after font old new listed₀ cell₀ picture list listed cell = 80 - cell
 
-drew-alike : (c : tie.After-draws-alike Inv-loop μ-loop) → same (shown (c .before .before .before .before .before .before .args .t3) (c .before .before .before .before .before .before .args .before)) (shown (c .before .before .before .before .before .before .args .t4) (c .before .before .before .before .before .before .args .after)) (c .before .before .before .before .before .before .args .font .now) (c .before .before .loop .cell) ≡ c .draws-alike .result
-unfolding same
-drew-alike c = sym (c .draws-alike .ensures)
+drew-alike : (c : tie.After-alike8 Inv-loop μ-loop) → same (shown (c .before .before .before .before .before .before .before .before .before .before .args .t3) (c .before .before .before .before .before .before .before .before .before .before .args .before)) (shown (c .before .before .before .before .before .before .before .before .before .before .args .t4) (c .before .before .before .before .before .before .before .before .before .before .args .after)) (c .before .before .before .before .before .before .before .before .before .before .args .font .now) (c .before .before .before .before .before .before .loop .cell) ≡ c .alike8 .result
+drew-alike c = same-is _ _ _ _ ∙ sym (c .alike8 .ensures ∙ rw (c .before .before .draw .ensures, c .before .draw2 .ensures))
 
 loop-holds : tie.Need-loop-holds Inv-loop μ-loop
 unfolding paint changedBelow
@@ -39,8 +40,8 @@ array-read-a c = search needs
 array-read-b : tie.Need-array-read-b Inv-loop μ-loop
 array-read-b c = search needs
 
-draws-alike-requires : tie.Need-draws-alike-requires Inv-loop μ-loop
-draws-alike-requires c κs = search needs
+stays-requires : tie.Need-stays-requires Inv-loop μ-loop
+stays-requires c κs = search needs
 
 add-cell : tie.Need-add-cell Inv-loop μ-loop
 add-cell c = search needs
@@ -54,12 +55,34 @@ loop-again c =
     let l = c .before .before .before .loop in
     let o = shown (a .t3) (a .before) in
     let n = shown (a .t4) (a .after) in
-    let h = drew-alike (c .before) ∙ c .if1 .taken in
+    let h = same-is o n (a .font .now) (l .cell) ∙ stays-alike (a .before) (a .after) (a .font .now) (getD (a .t3) (l .cell) 0) (getD (a .t4) (l .cell) 0) (sym (c .before .stays .ensures) ∙ c .if1 .taken) in
     rw (unlisted o n (a .font .now) (l .cell) h, paint-kept (same o n (a .font .now)) (cellDrawn n (a .font .now)) (a .picture .now) (l .cell) h)
     (omega arith, l .inv .1, omega arith, l .inv .3, l .inv .4, l .inv .5, l .inv .6)
 
 draw-requires : tie.Need-draw-requires Inv-loop μ-loop
 draw-requires c κs = search needs
+
+draw-requires-2 : tie.Need-draw-requires-2 Inv-loop μ-loop
+draw-requires-2 c κs = search needs
+
+alike8-requires : tie.Need-alike8-requires Inv-loop μ-loop
+alike8-requires c κs = search needs
+
+add-cell-2 : tie.Need-add-cell-2 Inv-loop μ-loop
+add-cell-2 c = search needs
+
+loop-less-2 : tie.Need-loop-less-2 Inv-loop μ-loop
+loop-less-2 c = search needs
+
+loop-again-2 : tie.Need-loop-again-2 Inv-loop μ-loop
+loop-again-2 c =
+    let a = c .before .before .before .before .before .before .before .before .before .before .before .args in
+    let l = c .before .before .before .before .before .before .before .loop in
+    let o = shown (a .t3) (a .before) in
+    let n = shown (a .t4) (a .after) in
+    let h = drew-alike (c .before) ∙ c .if2 .taken in
+    rw (unlisted o n (a .font .now) (l .cell) h, paint-kept (same o n (a .font .now)) (cellDrawn n (a .font .now)) (a .picture .now) (l .cell) h)
+    (omega arith, l .inv .1, omega arith, l .inv .3, l .inv .4, l .inv .5, l .inv .6)
 
 put-cell-requires : tie.Need-put-cell-requires Inv-loop μ-loop
 put-cell-requires c κs = search needs
@@ -73,26 +96,26 @@ slice-write-list c = search needs
 add-listed : tie.Need-add-listed Inv-loop μ-loop
 add-listed c = search needs
 
-add-cell-2 : tie.Need-add-cell-2 Inv-loop μ-loop
-add-cell-2 c = search needs
+add-cell-3 : tie.Need-add-cell-3 Inv-loop μ-loop
+add-cell-3 c = search needs
 
-loop-less-2 : tie.Need-loop-less-2 Inv-loop μ-loop
-loop-less-2 c = search needs
+loop-less-3 : tie.Need-loop-less-3 Inv-loop μ-loop
+loop-less-3 c = search needs
 
-loop-again-2 : tie.Need-loop-again-2 Inv-loop μ-loop
-loop-again-2 c =
-    let a = c .before .before .before .before .before .before .before .before .before .before .before .before .args in
-    let l = c .before .before .before .before .before .before .before .before .loop in
+loop-again-3 : tie.Need-loop-again-3 Inv-loop μ-loop
+loop-again-3 c =
+    let a = c .before .before .before .before .before .before .before .before .before .before .before .before .before .before .before .args in
+    let l = c .before .before .before .before .before .before .before .before .before .before .before .loop in
     let o = shown (a .t3) (a .before) in
     let n = shown (a .t4) (a .after) in
-    let h = drew-alike (c .before .before .before .before .before .before) ∙ c .before .before .before .before .before .if1 .left in
+    let h = drew-alike (c .before .before .before .before .before) ∙ c .before .before .before .before .if2 .left in
     let p = c .before .before .put-cell in
     let cells = changedBelow o n (a .font .now) (l .cell) in
     rw (listed o n (a .font .now) (l .cell) h, paint-put (same o n (a .font .now)) (cellDrawn n (a .font .now)) (a .picture .now) (l .cell) h) (
       omega arith,
       simp length-append (omega arith),
       omega arith,
-      p .ensures ∙ rw (c .before .before .before .draw .ensures, l .inv .3),
+      p .ensures ∙ rw (c .before .before .before .before .before .before .draw2 .ensures, l .inv .3),
       rw (l .inv .4) (front-more cells (a .list .now) (l .listed) (l .cell) (l .inv .1) (omega arith)),
       p .kept .0 ∙ l .inv .5,
       simp length-set (l .inv .6),
@@ -120,18 +143,23 @@ repaint-cells-spec =
     loop-holds
     array-read-a
     array-read-b
-    draws-alike-requires
+    stays-requires
     add-cell
     loop-less
     loop-again
     draw-requires
+    draw-requires-2
+    alike8-requires
+    add-cell-2
+    loop-less-2
+    loop-again-2
     put-cell-requires
     cast-list
     slice-write-list
     add-listed
-    add-cell-2
-    loop-less-2
-    loop-again-2
+    add-cell-3
+    loop-less-3
+    loop-again-3
     same-length
     same-length-2
     returns)
