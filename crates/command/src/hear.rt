@@ -11,12 +11,16 @@ use panel::state::Panel;
 pub fn hear(p: Panel, s: Scanned, reply: &mut [u8]) -> Said
     ensures { λ r. ⌜ Hears p s (now (reply .entry)) r (now (reply .exit)) ⌝ }
 {
-    let mut q = p;
     let hold = s.hold;
-    q.hold = hold;
     if !s.found {
+        let body = p.body;
+        let panel = Panel {
+            hold,
+            body,
+            unfiled: p.unfiled,
+        };
         return Said {
-            panel: q,
+            panel,
             answer: Answer::Waiting,
             taken: s.taken,
             dropped: s.dropped,
@@ -26,12 +30,16 @@ pub fn hear(p: Panel, s: Scanned, reply: &mut [u8]) -> Said
         };
     }
     let t = crate::step::step(p.body, s.packet);
-    let body = t.body;
-    q.body = body;
     let written = write(t.replies, t.reply, reply);
+    let body = t.body;
+    let panel = Panel {
+        hold,
+        body,
+        unfiled: p.unfiled,
+    };
     let answer = t.answer;
     Said {
-        panel: q,
+        panel,
         answer,
         taken: s.taken,
         dropped: s.dropped,

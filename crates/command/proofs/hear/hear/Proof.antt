@@ -10,8 +10,8 @@ use Rattle.command.proofs.step.step.Reads as step-reads
 
 returns : tie.Need-returns
 returns c =
-    let a = c .before .before .before .before .args in
-    nothing-heard (a .p) (a .s) (a .reply .now) (not-true _ (c .if1 .taken))
+    let a = c .before .before .before .before .before .args in
+    nothing-heard (a .p) (a .s) (a .reply .now) (not-true _ (c .before .if1 .taken))
 
 step-requires : tie.Need-step-requires
 step-requires c κs = search needs
@@ -26,7 +26,7 @@ returns-2 : tie.Need-returns-2
 returns-2 c =
     let a = c .before .before .before .before .before .before .before .before .before .before .args in
     let t = c .before .before .before .before .before .step in
-    let w = c .before .before .write in
+    let w = c .before .before .before .write in
     packet-heard (a .p) (a .s) (a .reply .now) (t .result) (w .result) (w .last .1 .1 .0) (not-false _ (c .before .before .before .before .before .before .if1 .left)) (t .ensures) (w .ensures .0) (w .ensures .1)
 
 pub hear-spec : {M : Type 1} → statement M
