@@ -141,3 +141,8 @@ module _ (p : Panel) (l : Lent) where
 -- hearing leaves the unfiled number to the register
 pub heard-unfiled : (p : Panel) (l : Lent) → heard p l .panel .unfiled ≡ p .unfiled
 heard-unfiled p l = heard-leaves p l .3
+
+-- what is heard is counted as it was scanned
+pub heard-counts : (p : Panel) (s : Scanned) (out : List ℕ) → (heardBy p s out .taken ≡ s .taken) × (heardBy p s out .checked ≡ s .checked)
+unfolding heardBy
+heard-counts p s out = when-either (λ (r : Said). (r .taken ≡ s .taken) × (r .checked ≡ s .checked)) _ _ _ (λ _. (refl, refl)) (λ _. (refl, refl))

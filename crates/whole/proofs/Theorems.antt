@@ -1,22 +1,26 @@
 -- What holds of the line call over and above the functions' own promises.
-use Prim.Native.Nat.{ℕ, _<_, _≤_}
+use Prim.Native.Nat.{ℕ, _+_, _*_, _<_, _≤_}
 use mathlib.Core.Path.{_≡_, refl, sym, _∙_}
 use mathlib.Core.Logic.{_≢_, _↔_}
 use mathlib.Core.List.{List}
 use native.Mathlib.Omega.{arith}
-use lib.ListN.{getD}
+use lib.ListN.{length, getD}
 use Rattle.lists.specs.Promise.{Determined}
 use Rattle.panel.specs.declared.state.Panel.{Panel}
 use Rattle.register.specs.declared.filing.Record.{Record}
+use Rattle.framing.specs.Hold.{held}
+use Rattle.framing.proofs.Theorems as framing
 use Rattle.command.specs.declared.answer.Said.{Said}
+use Rattle.command.specs.Hear.{scannedBy}
+use Rattle.command.proofs.Checks.{either-way, refused-by, accepted-by}
 use Rattle.command.specs.Answer.{numbersOf, refusedCall}
 use Rattle.picture.specs.Draw.{cellDrawn, shownBy, placeOf}
 use Rattle.picture.specs.Repaint.{ListedIn}
-use Rattle.picture.specs.Calls.{Lent, shownBefore, lineSaid, Lines}
+use Rattle.picture.specs.Calls.{Lent, lineChecks, heard, altered, withListed, shownBefore, lineSaid, Lines}
 use Rattle.picture.proofs.Theorems as pictures
 use Rattle.whole.specs.declared.line.Called.{Called}
 use Rattle.whole.specs.Whole.{LineCall, LineCallIn}
-use Rattle.whole.proofs.Outcomes.{nothing-changed, body-kept, unfiled-kept}
+use Rattle.whole.proofs.Outcomes.{nothing-changed, body-kept, unfiled-kept, heard-counts}
 
 module _ (p : Panel) (l : Lent) (register : List Record) (r : Said) (picture′ list′ reply′ : List ℕ) (register′ : List Record) (called : LineCall p l register r picture′ list′ reply′ register′) where
   -- A line call that is refused by a number of 10 or more leaves the panel, the picture, the list, the reply buffer and the register as they came, and counts nothing.
@@ -33,6 +37,16 @@ module _ (p : Panel) (l : Lent) (register : List Record) (r : Said) (picture′ 
       → ((r .panel .body ≡ p .body) × (r .listed ≡ 0) × (picture′ ≡ l .picture) × (list′ ≡ l .list)) × ((r .panel .unfiled ≡ p .unfiled) × (reply′ ≡ l .reply) × (register′ ≡ register))
   waiting-or-stray-changes-only h =
       (body-kept p l register r picture′ list′ reply′ register′ called (omega arith) (λ e. absurd (omega arith)), unfiled-kept p l register r picture′ list′ reply′ register′ called (omega arith) h)
+
+  -- The bytes run through the checksum are at most 24 for each byte held before or taken.
+  pub checked-bound : r .checked ≤ 24 * (length (held (p .hold)) + r .taken)
+  checked-bound =
+      rw (called .0)
+      (either-way (lineChecks p l) (λ a f. rw (refused-by f (refusedCall p) (withListed (heard p l) (length (altered p l)))) (omega arith))
+      (λ q.
+      let s = scannedBy p (l .piece) in
+      let c = heard-counts p s (l .reply) in
+      rw (accepted-by (lineChecks p l) q (refusedCall p) (withListed (heard p l) (length (altered p l))), c .0, c .1) (framing.checked-bound (p .hold) (l .piece) s refl)))
 
   -- As to the list, the picture and the reply, the call is the one without a register.
   without : Lines p l (lineSaid p l) picture′ list′ reply′
