@@ -38,7 +38,7 @@
  * The state, 402 bytes:
  *
  *      0        how many bytes of the line are held, 0 to 25
- *      1-25     the held bytes, oldest first; those behind the count mean nothing (power-on and a line call leave zeros there)
+ *      1-25     the held bytes, oldest first; those behind the count mean nothing (power-on and an accepted line call leave zeros)
  *     26-194    the live settings
  *    195-363    the boot state
  *    364-366    keys down, pressed and released since the last poll: bit 0 up, 1 enter, 2 cancel, 3 left, 4 right, 5 down
