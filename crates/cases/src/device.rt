@@ -1,5 +1,5 @@
 // Cases of the whole panel.
-use command::answer::Said;
+use answers::Said;
 use panel::state::Panel;
 use register::filing::Record;
 
@@ -45,7 +45,7 @@ pub fn powered_on(font: &[u8]) -> Device {
 fn filed(said: Said, screen: [u8; 640], records: [Record; 64]) -> Device {
     let mut panel = said.panel;
     let answer = said.answer;
-    let f = command::answer::to_file(answer);
+    let f = answers::to_file(answer);
     let key = f.key;
     let r = register::run::file_in(records, f.refused, key, panel.unfiled);
     panel.unfiled = r.unfiled;
@@ -69,7 +69,7 @@ fn call(before: Device, piece: &[u8], font: &[u8]) -> Called {
     let panel = before.panel;
     let s = picture::calls::line(panel, piece, &mut screen, font, &mut list, &mut reply, 64);
     let answer = s.answer;
-    let n = command::answer::told(answer);
+    let n = answers::told(answer);
     if n.number != 1 {
         crate::show::line(s, &reply, &list);
     }
@@ -109,14 +109,14 @@ pub fn with_panel(before: Device, said: Said) -> Device {
 pub fn key(name: &[u8], before: Device, number: u8, down: bool) -> Device {
     let mut reply = [0u8; 26];
     let panel = before.panel;
-    let s = command::keys::key(panel, number, down, &mut reply);
+    let s = events::keys::key(panel, number, down, &mut reply);
     crate::show::key(name, s, &reply);
     with_panel(before, s)
 }
 
 pub fn pin(name: &[u8], before: Device, number: u8, high: bool) -> Device {
     let panel = before.panel;
-    let s = command::pins::pin(panel, number, high);
+    let s = events::pins::pin(panel, number, high);
     crate::show::call(name, s);
     with_panel(before, s)
 }

@@ -1,5 +1,5 @@
 // What a call says, and what a panel and its register hold.
-use command::answer::Said;
+use answers::Said;
 use panel::state::Keys;
 use panel::state::Panel;
 use panel::state::Pins;
@@ -9,7 +9,7 @@ use register::filing::Record;
 // A line for a line call: its answer, the reply and the cells listed.
 pub fn line(s: Said, reply: &[u8], list: &[u8]) {
     let answer = s.answer;
-    let n = command::answer::told(answer);
+    let n = answers::told(answer);
     crate::text::small(b"line: ", n.number);
     crate::text::small(b" ", n.command);
     crate::text::small(b" ", n.reason);
@@ -24,7 +24,7 @@ pub fn line(s: Said, reply: &[u8], list: &[u8]) {
 // A line for a key call: its number and the report.
 pub fn key(name: &[u8], s: Said, reply: &[u8]) {
     let answer = s.answer;
-    let n = command::answer::told(answer);
+    let n = answers::told(answer);
     crate::text::word(name);
     crate::text::small(b": ", n.number);
     crate::text::word(b" reply");
@@ -35,7 +35,7 @@ pub fn key(name: &[u8], s: Said, reply: &[u8]) {
 // A line for any other call: its number.
 pub fn call(name: &[u8], s: Said) {
     let answer = s.answer;
-    let n = command::answer::told(answer);
+    let n = answers::told(answer);
     crate::text::word(name);
     crate::text::small(b": ", n.number);
     crate::text::word(b"\n");

@@ -53,7 +53,7 @@ pub fn key(before: Device, line: &[u8]) -> Device {
     let mut reply = [0u8; 27];
     let number = crate::text::small_decimal(line, 0);
     let e = lists::at_most(crate::text::decimal(line, 1), 27);
-    let s = command::keys::key(panel, number, true, &mut reply[..e]);
+    let s = events::keys::key(panel, number, true, &mut reply[..e]);
     crate::show::call(b"lend", s);
     crate::device::with_panel(before, s)
 }

@@ -18,14 +18,14 @@ use Rattle.panel.specs.declared.state.Panel.{Panel}
 use Rattle.panel.specs.Ranges.{inRanges}
 use Rattle.carry.specs.Carry.{contentOf, carried}
 use Rattle.verdict.specs.declared.verdict.Reason.{Reason}
-use Rattle.command.specs.declared.answer.Answer.the-variants.{Refused}
-use Rattle.command.specs.declared.answer.Said.{Said}
+use Rattle.answers.specs.declared.Answer.the-variants.{Refused}
+use Rattle.answers.specs.declared.Said.{Said}
 use Rattle.command.specs.declared.step.Stepped.{Stepped}
-use Rattle.command.specs.Answer.{numbersOf}
+use Rattle.answers.specs.Answer.{numbersOf}
 use Rattle.command.specs.Hear.{scannedBy, writtenLength, written, Hears}
 use Rattle.command.proofs.Effects.{BodyInRange, effect-in-range}
 use Rattle.command.proofs.Heard.{Steps, stray, done, refused, Heard, nothing, packet, see}
-use Rattle.command.proofs.InRange.{panel-parts, panel-whole}
+use Rattle.events.proofs.InRange.{panel-parts, panel-whole}
 
 -- a panel that differs in the hold alone
 abbrev pub withHold : Panel → Hold → Panel

@@ -15,8 +15,8 @@ use Rattle.verdict.specs.Verdict.{verdictOf}
 use Rattle.panel.specs.declared.state.Body.{Body}
 use Rattle.panel.specs.declared.state.Panel.{Panel}
 use Rattle.carry.specs.Carry.{contentOf, carried}
-use Rattle.command.specs.declared.answer.Answer.the-variants.{Waiting, Done, Refused}
-use Rattle.command.specs.declared.answer.Said.{Said}
+use Rattle.answers.specs.declared.Answer.the-variants.{Waiting, Done, Refused}
+use Rattle.answers.specs.declared.Said.{Said}
 use Rattle.command.specs.declared.step.Stepped.{Stepped}
 use Rattle.command.specs.Step.{strayed, ruled, stepOf}
 use Rattle.command.specs.Hear.{writtenLength, written, saidOf, heardBy, replyBy, Hears}

@@ -6,7 +6,7 @@ use mathlib.Core.List.{List}
 use Rattle.lists.proofs.Laws.{when-true, when-false}
 use Rattle.framing.specs.declared.scan.Scanned.{Scanned}
 use Rattle.panel.specs.declared.state.Panel.{Panel}
-use Rattle.command.specs.declared.answer.Answer.the-variants.{Waiting}
+use Rattle.answers.specs.declared.Answer.the-variants.{Waiting}
 use Rattle.command.specs.declared.step.Stepped.{Stepped}
 use Rattle.command.specs.Step.{stepOf}
 use Rattle.command.specs.Hear.{writtenLength, written, saidOf, heardBy, replyBy}

@@ -1,11 +1,6 @@
 pub mod Allowed
-pub mod Bits
-pub mod Checks
 pub mod Effects
-pub mod Events
 pub mod Heard
 pub mod HearCalls
 pub mod Hearing
-pub mod InRange
-pub mod KeyCalls
 pub mod Theorems

@@ -12,9 +12,9 @@ use Rattle.framing.specs.Hold.{held}
 use Rattle.framing.specs.Scan.{scan, scannedOf}
 use Rattle.panel.specs.declared.state.Body.{Body}
 use Rattle.panel.specs.declared.state.Panel.{Panel}
-use Rattle.command.specs.declared.answer.Answer.{Answer}
-use Rattle.command.specs.declared.answer.Answer.the-variants.{Waiting}
-use Rattle.command.specs.declared.answer.Said.{Said}
+use Rattle.answers.specs.declared.Answer.{Answer}
+use Rattle.answers.specs.declared.Answer.the-variants.{Waiting}
+use Rattle.answers.specs.declared.Said.{Said}
 use Rattle.carry.specs.Carry.{contentOf}
 use Rattle.command.specs.Step.{stepOf}
 

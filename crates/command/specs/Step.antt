@@ -9,7 +9,7 @@ use Rattle.verdict.specs.declared.verdict.Verdict.{Verdict}
 use Rattle.verdict.specs.declared.verdict.Verdict.the-variants as verdicts
 use Rattle.verdict.specs.Verdict.{verdictOf}
 use Rattle.panel.specs.declared.state.Body.{Body}
-use Rattle.command.specs.declared.answer.Answer.the-variants.{Stray, Done, Refused}
+use Rattle.answers.specs.declared.Answer.the-variants.{Stray, Done, Refused}
 use Rattle.command.specs.declared.step.Stepped.{Stepped}
 use Rattle.carry.specs.Carry.{contentOf, carried}
 

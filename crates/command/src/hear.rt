@@ -1,8 +1,8 @@
 // What a scan of the line found, heard: the packet, if any, carried out or refused, and its reply written.
 ghost use mathlib.Core.Path.{_≡_};
 ghost use Rattle.command.specs.Hear.{writtenLength, written, Hears};
-use crate::answer::Answer;
-use crate::answer::Said;
+use answers::Answer;
+use answers::Said;
 use framing::packet::Packet;
 use framing::scan::Scanned;
 use panel::state::Panel;

@@ -3,7 +3,7 @@ ghost use mathlib.Core.Path.{_≡_};
 ghost use mathlib.Core.List.{[]};
 ghost use Rattle.framing.specs.Packet.{packetOf};
 ghost use Rattle.command.specs.Step.{stepOf};
-use crate::answer::Answer;
+use answers::Answer;
 use framing::packet::Packet;
 use panel::state::Body;
 use verdict::verdict::Verdict;

@@ -67,7 +67,7 @@ fn call(a: Attached, piece: &[u8], font: &[u8]) -> Attached {
     );
     let s = c.said;
     let answer = s.answer;
-    let n = command::answer::told(answer);
+    let n = answers::told(answer);
     let sent = send(&reply, s.reply);
     if a.glass & (0 < s.listed) {
         crate::glass::draw(&picture, &list, s.listed);

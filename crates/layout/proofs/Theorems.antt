@@ -11,7 +11,7 @@ use Rattle.framing.specs.declared.hold.Hold.{Hold}
 use Rattle.panel.specs.declared.state.Panel.{Panel}
 use Rattle.register.specs.declared.filing.Record.{Record}
 use Rattle.register.specs.Filing.{blank}
-use Rattle.command.specs.declared.answer.Numbers.{Numbers}
+use Rattle.answers.specs.declared.Numbers.{Numbers}
 use Rattle.layout.specs.State.{bytesOf, panelOf, readable, PanelFits, ReadsState, WritesLine, WritesState}
 use Rattle.layout.specs.Faults.{registerBytes, registerOf, ReadsFaults, WritesFaults}
 use Rattle.layout.specs.Says.{saidBytes, Says}

@@ -2,9 +2,9 @@
 use Prim.Native.Nat.{ℕ, _/_, _%_}
 use mathlib.Core.Path.{_≡_}
 use mathlib.Core.List.{List, [], _∷_, _++_}
-use Rattle.command.specs.declared.answer.Numbers.{Numbers}
-use Rattle.command.specs.declared.answer.Said.{Said}
-use Rattle.command.specs.Answer.{numbersOf}
+use Rattle.answers.specs.declared.Numbers.{Numbers}
+use Rattle.answers.specs.declared.Said.{Said}
+use Rattle.answers.specs.Answer.{numbersOf}
 use Rattle.layout.specs.Words.{wordBytes}
 
 unfoldable pub saidBytes : Numbers → ℕ → ℕ → ℕ → ℕ → ℕ → List ℕ

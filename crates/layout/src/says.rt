@@ -1,6 +1,6 @@
 // What a call says, as 16 bytes.
 ghost use Rattle.layout.specs.Says.{Says};
-use command::answer::Numbers;
+use answers::Numbers;
 
 // The numbers of the answer, the bytes taken, dropped and run through the checksum, the reply's length and the cells listed.
 pub fn write(

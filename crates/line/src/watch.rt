@@ -1,6 +1,6 @@
 // What the program keeps from call to call, and what it prints of each.
-use command::answer::Numbers;
-use command::answer::Said;
+use answers::Numbers;
+use answers::Said;
 use panel::state::Panel;
 use register::filing::Record;
 
@@ -105,7 +105,7 @@ fn call(w: Watch, piece: &[u8], font: &[u8]) -> Watch {
     );
     let s = c.said;
     let answer = s.answer;
-    let n = command::answer::told(answer);
+    let n = answers::told(answer);
     let mut events = w.events;
     if 1 < n.number {
         event_line(w, s, n);

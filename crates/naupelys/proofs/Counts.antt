@@ -15,13 +15,13 @@ use Rattle.framing.specs.Scan.{scannedOf}
 use Rattle.framing.proofs.Bounds as bounds
 use Rattle.panel.specs.declared.state.Panel.{Panel}
 use Rattle.carry.specs.Carry.{contentOf}
-use Rattle.command.specs.declared.answer.Answer.{Answer}
-use Rattle.command.specs.declared.answer.Said.{Said}
-use Rattle.command.specs.Answer.{numbersOf, refusedCall}
+use Rattle.answers.specs.declared.Answer.{Answer}
+use Rattle.answers.specs.declared.Said.{Said}
+use Rattle.answers.specs.Answer.{numbersOf, refusedCall}
 use Rattle.command.specs.Hear.{writtenLength, scannedBy, heardBy}
-use Rattle.command.specs.Keys.{keyChecks, keyAccepted, keySaid, reports}
-use Rattle.command.specs.Pins.{pinChecks, pinAccepted, pinSaid}
-use Rattle.command.proofs.Checks.{Pass, either-way, refused-by, accepted-by}
+use Rattle.events.specs.Keys.{keyChecks, keyAccepted, keySaid, reports}
+use Rattle.events.specs.Pins.{pinChecks, pinAccepted, pinSaid}
+use Rattle.answers.proofs.Checks.{Pass, either-way, refused-by, accepted-by}
 use Rattle.picture.specs.Calls.{Lent, lineChecks, lineSaid, heard, altered, withListed, shownBefore, shownAfter}
 use Rattle.picture.proofs.Changes.{changed-short}
 use Rattle.layout.specs.Says.{saidBytes, bytesSaid}

@@ -9,10 +9,10 @@ use lib.ListN.{length, drop, length-take}
 use Rattle.lists.specs.Promise.{Determined}
 use Rattle.lists.proofs.Laws.{when-true, when-false}
 use Rattle.panel.specs.declared.state.Panel.{Panel}
-use Rattle.command.specs.declared.answer.Said.{Said}
-use Rattle.command.specs.Keys.{keySaid}
-use Rattle.command.specs.Pins.{pinSaid}
-use Rattle.command.proofs.Theorems.{refused-key-changes-nothing}
+use Rattle.answers.specs.declared.Said.{Said}
+use Rattle.events.specs.Keys.{keySaid}
+use Rattle.events.specs.Pins.{pinSaid}
+use Rattle.events.proofs.Theorems.{refused-key-changes-nothing}
 use Rattle.picture.specs.Calls.{Lent, lineSaid}
 use Rattle.whole.proofs.Theorems.{refused-call-changes-nothing}
 use Rattle.layout.specs.State.{holdOf, panelOf, readable}

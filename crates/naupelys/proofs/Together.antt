@@ -18,15 +18,15 @@ use Rattle.register.specs.declared.run.FiledIn.{FiledIn}
 use Rattle.register.specs.declared.filing.Record.{Record}
 use Rattle.register.specs.Filing.{FilesBack}
 use Rattle.register.proofs.Theorems.{not-refused-changes-nothing}
-use Rattle.command.specs.declared.answer.Answer.{Answer}
-use Rattle.command.specs.declared.answer.Answer.the-variants.{Waiting, StateOutOfRange}
-use Rattle.command.specs.declared.answer.Said.{Said}
-use Rattle.command.specs.declared.answer.Filing.{Filing}
-use Rattle.command.specs.Answer.{numbersOf, filingOf, Hands, Check, decided, refusedCall}
-use Rattle.command.specs.Keys.{keySaid, keyReply, Presses}
-use Rattle.command.specs.Pins.{pinSaid, Moves}
+use Rattle.answers.specs.declared.Answer.{Answer}
+use Rattle.answers.specs.declared.Answer.the-variants.{Waiting, StateOutOfRange}
+use Rattle.answers.specs.declared.Said.{Said}
+use Rattle.answers.specs.declared.Filing.{Filing}
+use Rattle.answers.specs.Answer.{numbersOf, filingOf, Hands, Check, decided, refusedCall}
+use Rattle.events.specs.Keys.{keySaid, keyReply, Presses}
+use Rattle.events.specs.Pins.{pinSaid, Moves}
 use Rattle.command.specs.Hear.{saidOf}
-use Rattle.command.proofs.Checks.{Pass, either-way, refused-by, accepted-by, answers-by-number}
+use Rattle.answers.proofs.Checks.{Pass, either-way, refused-by, accepted-by, answers-by-number}
 use Rattle.command.proofs.Hearing.{nothing-heard}
 use Rattle.picture.specs.declared.calls.Checked.{Checked}
 use Rattle.picture.proofs.Turns.{nothing-repainted}

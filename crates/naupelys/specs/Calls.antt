@@ -9,12 +9,12 @@ use Rattle.framing.specs.declared.scan.Scanned.{Scanned}
 use Rattle.panel.specs.declared.state.Panel.{Panel}
 use Rattle.panel.specs.State.{poweredOn}
 use Rattle.register.specs.Filing.{Files, filedIf}
-use Rattle.command.specs.declared.answer.Answer.{Answer}
-use Rattle.command.specs.declared.answer.Answer.the-variants.{Waiting, StateOutOfRange}
-use Rattle.command.specs.declared.answer.Said.{Said}
-use Rattle.command.specs.Answer.{numbersOf, filingOf}
-use Rattle.command.specs.Keys.{keySaid, keyReply}
-use Rattle.command.specs.Pins.{pinSaid}
+use Rattle.answers.specs.declared.Answer.{Answer}
+use Rattle.answers.specs.declared.Answer.the-variants.{Waiting, StateOutOfRange}
+use Rattle.answers.specs.declared.Said.{Said}
+use Rattle.answers.specs.Answer.{numbersOf, filingOf}
+use Rattle.events.specs.Keys.{keySaid, keyReply}
+use Rattle.events.specs.Pins.{pinSaid}
 use Rattle.picture.specs.Calls.{Lent, lineSaid, linePicture, lineList, lineReply, powerSaid, powerPicture}
 use Rattle.whole.specs.Whole.{withUnfiled}
 use Rattle.layout.specs.State.{bytesOf, panelOf, readable, stateWith, lineWith}

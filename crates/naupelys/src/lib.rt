@@ -3,8 +3,8 @@ ghost use mathlib.Core.Path.{_≡_};
 ghost use lib.ListN.{length};
 ghost use Rattle.picture.specs.Calls.{lent};
 ghost use Rattle.naupelys.specs.Calls.{noState, recordsIn, Told, Refused, Waits, Ends, FilesBytes, PowerOnBytes, LineBytes, KeyBytes, PinBytes};
-use command::answer::Answer;
-use command::answer::Said;
+use answers::Answer;
+use answers::Said;
 use framing::scan::Scanned;
 
 // The answer and the counts written as what the call says; the answer's number.
@@ -12,7 +12,7 @@ fn told(said: &mut [u8; 16], s: Said) -> u8
     ensures { λ r. ⌜ Told s r (now (said .exit)) ⌝ }
 {
     let answer = s.answer;
-    let n = command::answer::told(answer);
+    let n = answers::told(answer);
     layout::says::write(said, n, s.taken, s.dropped, s.checked, s.reply, s.listed);
     n.number
 }
@@ -21,7 +21,7 @@ fn told(said: &mut [u8; 16], s: Said) -> u8
 fn refused(said: &mut [u8; 16], answer: Answer) -> u8
     ensures { λ r. ⌜ Refused answer r (now (said .exit)) ⌝ }
 {
-    let n = command::answer::told(answer);
+    let n = answers::told(answer);
     layout::says::write(said, n, 0, 0, 0, 0, 0);
     n.number
 }
@@ -38,7 +38,7 @@ fn waited(state: &mut [u8], s: Scanned, unfiled: u32, said: &mut [u8; 16]) -> u8
     ensures { λ r. ⌜ Waits (now (state .entry)) s unfiled r (now (state .exit)) (now (said .exit)) ⌝ }
 {
     layout::state::write_line(state, s.hold, unfiled);
-    let n = command::answer::told(Answer::Waiting);
+    let n = answers::told(Answer::Waiting);
     layout::says::write(said, n, s.taken, s.dropped, s.checked, 0, 0);
     n.number
 }
@@ -65,7 +65,7 @@ fn records_in(size: usize) -> usize
 fn file(faults: &mut [u8], answer: Answer, unfiled: u32) -> u32
     ensures { λ r. ⌜ FilesBytes answer unfiled (now (faults .entry)) r (now (faults .exit)) ⌝ }
 {
-    let f = command::answer::to_file(answer);
+    let f = answers::to_file(answer);
     if !f.refused {
         return unfiled;
     }
@@ -149,7 +149,7 @@ pub extern "C" fn naupelys_key(
     if !r.readable {
         return no_state(said);
     }
-    let s = command::keys::key(r.panel, key, down, reply);
+    let s = events::keys::key(r.panel, key, down, reply);
     ended(state, s, said)
 }
 
@@ -162,6 +162,6 @@ pub extern "C" fn naupelys_pin(state: &mut [u8], pin: u8, high: bool, said: &mut
     if !r.readable {
         return no_state(said);
     }
-    let s = command::pins::pin(r.panel, pin, high);
+    let s = events::pins::pin(r.panel, pin, high);
     ended(state, s, said)
 }

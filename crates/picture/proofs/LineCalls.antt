@@ -12,11 +12,11 @@ use Rattle.lists.specs.Runs.{front}
 use Rattle.lists.proofs.Laws.{when-either}
 use Rattle.panel.specs.declared.state.Panel.{Panel}
 use Rattle.panel.specs.State.{poweredOn}
-use Rattle.command.specs.declared.answer.Answer.{Answer}
-use Rattle.command.specs.declared.answer.Said.{Said}
-use Rattle.command.specs.Answer.{numbersOf, Check, decided, refusedCall}
+use Rattle.answers.specs.declared.Answer.{Answer}
+use Rattle.answers.specs.declared.Said.{Said}
+use Rattle.answers.specs.Answer.{numbersOf, Check, decided, refusedCall}
 use Rattle.command.specs.Hear.{scannedBy, heardBy, replyBy, Hears}
-use Rattle.command.proofs.Checks.{Fails, Pass, ByNumber, refused-by, accepted-by, either-way, call-passed, call-refused, call-unchanged}
+use Rattle.answers.proofs.Checks.{Fails, Pass, ByNumber, refused-by, accepted-by, either-way, call-passed, call-refused, call-unchanged}
 use Rattle.framing.specs.declared.packet.Packet.{Packet}
 use Rattle.framing.specs.declared.scan.Scanned.{Scanned}
 use Rattle.verdict.specs.declared.verdict.Verdict.{Verdict}

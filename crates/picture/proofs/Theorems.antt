@@ -10,8 +10,8 @@ use Rattle.lists.proofs.Theorems.{one, and}
 use Rattle.framing.specs.declared.scan.Scanned.{Scanned}
 use Rattle.panel.specs.declared.state.Panel.{Panel}
 use Rattle.panel.specs.State.{poweredOn}
-use Rattle.command.specs.declared.answer.Said.{Said}
-use Rattle.command.specs.Answer.{numbersOf, refusedCall}
+use Rattle.answers.specs.declared.Said.{Said}
+use Rattle.answers.specs.Answer.{numbersOf, refusedCall}
 use Rattle.picture.specs.Draw.{cellDrawn, shownBy, placeOf}
 use Rattle.picture.specs.Repaint.{ListedIn}
 use Rattle.picture.specs.Calls.{PowersOn, Lent, shownBefore, ChecksLine, CarriesOn, Lines}

@@ -14,7 +14,7 @@ use Rattle.panel.specs.Glyphs.{nestedOf, flatFirst, flatOf}
 use Rattle.panel.specs.State.{factorySettings, poweredOn}
 use Rattle.panel.specs.Ranges.{numbersInRange, settingsInRange, keysInRange, inRanges}
 use Rattle.carry.specs.Carry.{effect, memory, edges, replyData, carried}
-use Rattle.command.specs.Answer.{numbersOf, decided}
+use Rattle.answers.specs.Answer.{numbersOf, decided}
 use Rattle.command.specs.Step.{ruled, stepOf}
 use Rattle.command.specs.Hear.{writtenLength, written, heardBy, replyBy}
 use Rattle.picture.specs.Draw.{sourceOf, drawnFrom, codeDrawn}

@@ -10,10 +10,10 @@ use Rattle.framing.specs.declared.scan.Scanned.{Scanned}
 use Rattle.panel.specs.declared.state.Panel.{Panel}
 use Rattle.panel.specs.State.{poweredOn}
 use Rattle.panel.specs.Ranges.{inRanges}
-use Rattle.command.specs.declared.answer.Answer.{Answer}
-use Rattle.command.specs.declared.answer.Answer.the-variants.{Waiting, Done, StateOutOfRange, PieceTooLong, PictureSize, FontSize, ListSize, ReplySize, RegisterSize}
-use Rattle.command.specs.declared.answer.Said.{Said}
-use Rattle.command.specs.Answer.{Check, check, decided, refusedCall}
+use Rattle.answers.specs.declared.Answer.{Answer}
+use Rattle.answers.specs.declared.Answer.the-variants.{Waiting, Done, StateOutOfRange, PieceTooLong, PictureSize, FontSize, ListSize, ReplySize, RegisterSize}
+use Rattle.answers.specs.declared.Said.{Said}
+use Rattle.answers.specs.Answer.{Check, check, decided, refusedCall}
 use Rattle.command.specs.Hear.{scannedBy, heardBy, replyBy}
 use Rattle.picture.specs.declared.calls.Checked.{Checked}
 use Rattle.picture.specs.Draw.{Shown, shownBy, drawn}

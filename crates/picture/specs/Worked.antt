@@ -6,7 +6,7 @@ use lib.ListN.{take, replicate}
 use Rattle.framing.specs.Hold.{held}
 use Rattle.panel.specs.declared.state.Panel.{Panel}
 use Rattle.panel.specs.State.{poweredOn}
-use Rattle.command.specs.Answer.{numbersOf}
+use Rattle.answers.specs.Answer.{numbersOf}
 use Rattle.picture.specs.Calls.{lent, lineSaid, lineList, lineReply}
 
 -- f a, f (a + 1), .. : n of them

@@ -1,9 +1,9 @@
 // The calls of the whole panel: power-on and the line call.
 ghost use mathlib.Core.Path.{_≡_};
 ghost use Rattle.picture.specs.Calls.{acceptedCall, PowersOn, turnedAway, ChecksLine, CarriesOn, lent, Lines};
-use command::answer::Answer;
-use command::answer::Said;
-use command::answer::refused_call;
+use answers::Answer;
+use answers::Said;
+use answers::refused_call;
 use framing::scan::Scanned;
 use panel::state::Panel;
 

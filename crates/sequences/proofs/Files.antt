@@ -12,12 +12,12 @@ use Rattle.register.specs.declared.filing.Record.{Record}
 use Rattle.register.specs.declared.filing.Refusal.{Refusal}
 use Rattle.register.specs.Filing.{Files, filedIf, total, most}
 use Rattle.register.proofs.Theorems.{one-more}
-use Rattle.command.specs.declared.answer.Answer.{Answer}
-use Rattle.command.specs.declared.answer.Said.{Said}
-use Rattle.command.specs.Answer.{Check, decided, refusedCall, filingOf}
-use Rattle.command.specs.Keys.{keyChecks}
-use Rattle.command.specs.Pins.{pinChecks}
-use Rattle.command.proofs.Checks.{either-way, refused-by, accepted-by}
+use Rattle.answers.specs.declared.Answer.{Answer}
+use Rattle.answers.specs.declared.Said.{Said}
+use Rattle.answers.specs.Answer.{Check, decided, refusedCall, filingOf}
+use Rattle.events.specs.Keys.{keyChecks}
+use Rattle.events.specs.Pins.{pinChecks}
+use Rattle.answers.proofs.Checks.{either-way, refused-by, accepted-by}
 use Rattle.picture.specs.Calls.{acceptedCall, powerChecks, PowersOn, Lent, lent, lineChecks, heard, altered, withListed, lineSaid}
 use Rattle.whole.specs.Whole.{filesAfter, LineCall}
 use Rattle.sequences.specs.Run.{Call, line, key, pin, World, filesOf, refusedIn, Makes, Runs, done, more}

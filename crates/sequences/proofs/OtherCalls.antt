@@ -12,14 +12,14 @@ use Rattle.framing.specs.Hold.{holdOf}
 use Rattle.panel.specs.declared.state.Body.{Body}
 use Rattle.panel.specs.declared.state.Panel.{Panel}
 use Rattle.panel.specs.Ranges.{inRanges}
-use Rattle.command.specs.declared.answer.Said.{Said}
-use Rattle.command.specs.Answer.{Check, refusedCall}
-use Rattle.command.specs.Keys.{keyChecks, reportBytes, reports, withBody, keyAccepted, keySaid, keyReply}
-use Rattle.command.specs.Pins.{pinChecks, pinAccepted, pinSaid}
+use Rattle.answers.specs.declared.Said.{Said}
+use Rattle.answers.specs.Answer.{Check, refusedCall}
+use Rattle.events.specs.Keys.{keyChecks, reportBytes, reports, withBody, keyAccepted, keySaid, keyReply}
+use Rattle.events.specs.Pins.{pinChecks, pinAccepted, pinSaid}
 use Rattle.sequences.specs.Story.{Other, key, pin, Answers, presses, moves, replied}
-use Rattle.command.proofs.Checks.{refused-by, accepted-by, either-way, call-in-range}
-use Rattle.command.proofs.InRange.{panel-parts, panel-whole}
-use Rattle.command.proofs.KeyCalls.{accepted-in-range}
+use Rattle.answers.proofs.Checks.{refused-by, accepted-by, either-way, call-in-range}
+use Rattle.events.proofs.InRange.{panel-parts, panel-whole}
+use Rattle.events.proofs.KeyCalls.{accepted-in-range}
 
 pub made-in-range : {c : Other} {p : Panel} {out : List ℕ} {r : Said} {out′ : List ℕ} → Answers c p out r out′ → inRanges p ≡ true → inRanges (r .panel) ≡ true
 unfolding inRanges

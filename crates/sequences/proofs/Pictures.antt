@@ -6,11 +6,11 @@ use lib.ListN.{length}
 use Rattle.panel.specs.declared.state.Settings.{Settings}
 use Rattle.panel.specs.declared.state.Panel.{Panel}
 use Rattle.register.specs.declared.filing.Record.{Record}
-use Rattle.command.specs.declared.answer.Said.{Said}
-use Rattle.command.specs.Answer.{Check, decided, refusedCall}
-use Rattle.command.specs.Keys.{keyChecks}
-use Rattle.command.specs.Pins.{pinChecks}
-use Rattle.command.proofs.Checks.{either-way, refused-by, accepted-by}
+use Rattle.answers.specs.declared.Said.{Said}
+use Rattle.answers.specs.Answer.{Check, decided, refusedCall}
+use Rattle.events.specs.Keys.{keyChecks}
+use Rattle.events.specs.Pins.{pinChecks}
+use Rattle.answers.proofs.Checks.{either-way, refused-by, accepted-by}
 use Rattle.picture.specs.Draw.{shownBy, drawn}
 use Rattle.picture.specs.Calls.{Lent, lent, lineChecks, shownBefore, shownAfter, lineSaid}
 use Rattle.picture.proofs.Changes.{repainted}

@@ -21,14 +21,14 @@ use Rattle.panel.specs.declared.state.Panel.{Panel}
 use Rattle.panel.specs.Ranges.{inRanges}
 use Rattle.register.specs.Filing.{Files, filedIf}
 use Rattle.register.proofs.Theorems.{length-filed}
-use Rattle.command.specs.declared.answer.Answer.{Answer}
-use Rattle.command.specs.declared.answer.Answer.the-variants.{Waiting}
-use Rattle.command.specs.declared.answer.Said.{Said}
+use Rattle.answers.specs.declared.Answer.{Answer}
+use Rattle.answers.specs.declared.Answer.the-variants.{Waiting}
+use Rattle.answers.specs.declared.Said.{Said}
 use Rattle.command.specs.declared.step.Stepped.{Stepped}
-use Rattle.command.specs.Answer.{numbersOf, filingOf}
-use Rattle.command.specs.Keys.{withBody}
+use Rattle.answers.specs.Answer.{numbersOf, filingOf}
+use Rattle.events.specs.Keys.{withBody}
 use Rattle.command.specs.Hear.{scannedBy, heardBy, replyBy}
-use Rattle.command.proofs.Checks.{Pass, accepted-by}
+use Rattle.answers.proofs.Checks.{Pass, accepted-by}
 use Rattle.command.proofs.Heard as heard
 use Rattle.command.proofs.Heard.{Steps, Heard}
 use Rattle.command.proofs.HearCalls.{hear-in-range}

@@ -11,10 +11,10 @@ use Rattle.panel.specs.Ranges.{inRanges}
 use Rattle.register.specs.declared.filing.Record.{Record}
 use Rattle.register.specs.Filing.{counts}
 use Rattle.framing.proofs.Theorems as framing
-use Rattle.command.specs.declared.answer.Said.{Said}
-use Rattle.command.specs.Answer.{numbersOf}
-use Rattle.command.specs.Keys.{keySaid, keyReply}
-use Rattle.command.specs.Pins.{pinSaid}
+use Rattle.answers.specs.declared.Said.{Said}
+use Rattle.answers.specs.Answer.{numbersOf}
+use Rattle.events.specs.Keys.{keySaid, keyReply}
+use Rattle.events.specs.Pins.{pinSaid}
 use Rattle.picture.specs.Draw.{shownBy, drawn}
 use Rattle.picture.specs.Calls.{PowersOn, lent, lineSaid, linePicture, lineList, lineReply}
 use Rattle.picture.proofs.LineCalls.{power-draws}

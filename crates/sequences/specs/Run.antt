@@ -9,10 +9,10 @@ use Rattle.lists.specs.Tests.{when_then_else_}
 use Rattle.panel.specs.declared.state.Panel.{Panel}
 use Rattle.register.specs.declared.filing.Record.{Record}
 use Rattle.register.specs.Filing.{Files}
-use Rattle.command.specs.declared.answer.Said.{Said}
-use Rattle.command.specs.Answer.{filingOf}
-use Rattle.command.specs.Keys.{Presses}
-use Rattle.command.specs.Pins.{Moves}
+use Rattle.answers.specs.declared.Said.{Said}
+use Rattle.answers.specs.Answer.{filingOf}
+use Rattle.events.specs.Keys.{Presses}
+use Rattle.events.specs.Pins.{Moves}
 use Rattle.picture.specs.Draw.{shownBy, drawn}
 use Rattle.picture.specs.Calls.{lent}
 use Rattle.whole.specs.Whole.{LineCall}

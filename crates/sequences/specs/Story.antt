@@ -7,12 +7,12 @@ use mathlib.Core.List.{List, [], _∷_, _++_}
 use lib.ListN.{length, take, drop}
 use Rattle.lists.specs.Tests.{when_then_else_, _=?_}
 use Rattle.panel.specs.declared.state.Panel.{Panel}
-use Rattle.command.specs.declared.answer.Answer.{Answer}
-use Rattle.command.specs.declared.answer.Answer.the-variants.{Waiting}
-use Rattle.command.specs.declared.answer.Said.{Said}
-use Rattle.command.specs.Answer.{numbersOf}
-use Rattle.command.specs.Keys.{Presses}
-use Rattle.command.specs.Pins.{Moves}
+use Rattle.answers.specs.declared.Answer.{Answer}
+use Rattle.answers.specs.declared.Answer.the-variants.{Waiting}
+use Rattle.answers.specs.declared.Said.{Said}
+use Rattle.answers.specs.Answer.{numbersOf}
+use Rattle.events.specs.Keys.{Presses}
+use Rattle.events.specs.Pins.{Moves}
 use Rattle.picture.specs.Calls.{lent}
 use Rattle.whole.specs.Whole.{LineCall}
 use Rattle.sequences.specs.Run.{World}

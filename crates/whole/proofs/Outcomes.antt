@@ -17,13 +17,13 @@ use Rattle.panel.specs.declared.state.Body.{Body}
 use Rattle.panel.specs.declared.state.Panel.{Panel}
 use Rattle.register.specs.declared.filing.Record.{Record}
 use Rattle.register.specs.Filing.{Files, filedIf}
-use Rattle.command.specs.declared.answer.Answer.{Answer}
-use Rattle.command.specs.declared.answer.Said.{Said}
+use Rattle.answers.specs.declared.Answer.{Answer}
+use Rattle.answers.specs.declared.Said.{Said}
 use Rattle.command.specs.declared.step.Stepped.{Stepped}
-use Rattle.command.specs.Answer.{numbersOf, filingOf, refusedCall}
+use Rattle.answers.specs.Answer.{numbersOf, filingOf, refusedCall}
 use Rattle.command.specs.Step.{ruled, stepOf}
 use Rattle.command.specs.Hear.{scannedBy, written, heardBy, replyBy}
-use Rattle.command.proofs.Checks.{Pass, ByNumber, refused-by, accepted-by, call-refused, call-passed}
+use Rattle.answers.proofs.Checks.{Pass, ByNumber, refused-by, accepted-by, call-refused, call-passed}
 use Rattle.picture.specs.Draw.{shownBy}
 use Rattle.picture.specs.Repaint.{Repaints}
 use Rattle.picture.specs.Calls.{Lent, lineChecks, heard, shownBefore, shownAfter, altered, withListed, lineSaid}

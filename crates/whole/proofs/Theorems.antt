@@ -10,10 +10,10 @@ use Rattle.panel.specs.declared.state.Panel.{Panel}
 use Rattle.register.specs.declared.filing.Record.{Record}
 use Rattle.framing.specs.Hold.{held}
 use Rattle.framing.proofs.Theorems as framing
-use Rattle.command.specs.declared.answer.Said.{Said}
+use Rattle.answers.specs.declared.Said.{Said}
 use Rattle.command.specs.Hear.{scannedBy}
-use Rattle.command.proofs.Checks.{either-way, refused-by, accepted-by}
-use Rattle.command.specs.Answer.{numbersOf, refusedCall}
+use Rattle.answers.proofs.Checks.{either-way, refused-by, accepted-by}
+use Rattle.answers.specs.Answer.{numbersOf, refusedCall}
 use Rattle.picture.specs.Draw.{cellDrawn, shownBy, placeOf}
 use Rattle.picture.specs.Repaint.{ListedIn}
 use Rattle.picture.specs.Calls.{Lent, lineChecks, heard, altered, withListed, shownBefore, lineSaid, Lines}

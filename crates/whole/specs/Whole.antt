@@ -5,8 +5,8 @@ use mathlib.Core.List.{List}
 use Rattle.panel.specs.declared.state.Panel.{Panel}
 use Rattle.register.specs.declared.filing.Record.{Record}
 use Rattle.register.specs.Filing.{Files, filedIf}
-use Rattle.command.specs.declared.answer.Said.{Said}
-use Rattle.command.specs.Answer.{filingOf}
+use Rattle.answers.specs.declared.Said.{Said}
+use Rattle.answers.specs.Answer.{filingOf}
 use Rattle.picture.specs.Calls.{Lent, lineSaid, linePicture, lineList, lineReply, Lines}
 use Rattle.whole.specs.declared.line.Heard.{Heard}
 use Rattle.whole.specs.declared.line.Called.{Called}

@@ -3,8 +3,8 @@ ghost use mathlib.Core.Path.{_≡_};
 ghost use lib.ListN.{length};
 ghost use Rattle.picture.specs.Calls.{lent};
 ghost use Rattle.whole.specs.Whole.{HearsAll, withUnfiled, LineCall, LineCallIn};
-use command::answer::Filing;
-use command::answer::Said;
+use answers::Filing;
+use answers::Said;
 use panel::state::Panel;
 use register::filing::Record;
 use register::run::file;
@@ -37,7 +37,7 @@ fn hear(
 {
     let said = picture::calls::line(p, piece, picture, font, list, reply, records);
     let answer = said.answer;
-    let filing = command::answer::to_file(answer);
+    let filing = answers::to_file(answer);
     Heard { said, filing }
 }
 

@@ -5,7 +5,7 @@ use Rattle.naupelys.proofs.file.Statement.{statement}
 use Rattle.naupelys.proofs.file.Tie as tie
 use Rattle.naupelys.proofs.file.Reads as reads
 use Rattle.naupelys.proofs.file.Lts as lts
-use Rattle.command.proofs.answer.to_file.Reads as to-file-reads
+use Rattle.answers.proofs.to_file.Reads as to-file-reads
 use Rattle.layout.proofs.faults.read.Reads as read-reads
 use Rattle.layout.proofs.faults.write.Reads as write-reads
 use Rattle.register.proofs.run.file_in.Reads as file-in-reads

@@ -4,7 +4,7 @@ use mathlib.Core.Bool.{_&&_}
 use lib.ListN.{length}
 use borrow.Author.Tests.{not-true, not-false}
 use borrow.Author.Needs.{needs}
-use Rattle.command.specs.Answer.{decided}
+use Rattle.answers.specs.Answer.{decided}
 use Rattle.picture.specs.Calls.{lent, checksOf, turnedAway, letThrough}
 use Rattle.naupelys.specs.Calls.{recordsIn}
 use Rattle.naupelys.proofs.Together.{line-turned-away, line-waited, line-carried-on}

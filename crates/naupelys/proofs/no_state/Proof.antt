@@ -1,4 +1,4 @@
-use Rattle.command.specs.Answer.{numbersOf}
+use Rattle.answers.specs.Answer.{numbersOf}
 use borrow.Author.Needs.{needs}
 use Rattle.naupelys.proofs.no_state.Statement.{statement}
 use Rattle.naupelys.proofs.no_state.Tie as tie

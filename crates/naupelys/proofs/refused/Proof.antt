@@ -1,12 +1,12 @@
 use mathlib.Core.Path.{_∙_, ap}
-use Rattle.command.specs.declared.answer.Numbers.{Numbers}
+use Rattle.answers.specs.declared.Numbers.{Numbers}
 use Rattle.layout.specs.Says.{saidBytes}
 use borrow.Author.Needs.{needs}
 use Rattle.naupelys.proofs.refused.Statement.{statement}
 use Rattle.naupelys.proofs.refused.Tie as tie
 use Rattle.naupelys.proofs.refused.Reads as reads
 use Rattle.naupelys.proofs.refused.Lts as lts
-use Rattle.command.proofs.answer.told.Reads as told-reads
+use Rattle.answers.proofs.told.Reads as told-reads
 use Rattle.layout.proofs.says.write.Reads as write-reads
 
 told-requires : tie.Need-told-requires

@@ -1,13 +1,13 @@
 use mathlib.Core.Path.{_∙_, ap}
-use Rattle.command.specs.declared.answer.Numbers.{Numbers}
-use Rattle.command.specs.Answer.{numbersOf}
+use Rattle.answers.specs.declared.Numbers.{Numbers}
+use Rattle.answers.specs.Answer.{numbersOf}
 use Rattle.layout.specs.Says.{saidBytes}
 use borrow.Author.Needs.{needs}
 use Rattle.naupelys.proofs.waited.Statement.{statement}
 use Rattle.naupelys.proofs.waited.Tie as tie
 use Rattle.naupelys.proofs.waited.Reads as reads
 use Rattle.naupelys.proofs.waited.Lts as lts
-use Rattle.command.proofs.answer.told.Reads as told-reads
+use Rattle.answers.proofs.told.Reads as told-reads
 use Rattle.layout.proofs.says.write.Reads as write-reads
 use Rattle.layout.proofs.state.write_line.Reads as write-line-reads
 

@@ -1,12 +1,12 @@
 use borrow.Author.Tests.{eq-eqb, ne-eqb}
-use Rattle.command.proofs.Checks.{here, later}
+use Rattle.answers.proofs.Checks.{here, later}
 use Rattle.picture.proofs.LineCalls.{carried-refused, carried-accepted}
 use borrow.Author.Needs.{needs}
 use Rattle.picture.proofs.calls.carried_on.Statement.{statement}
 use Rattle.picture.proofs.calls.carried_on.Tie as tie
 use Rattle.picture.proofs.calls.carried_on.Reads as reads
 use Rattle.picture.proofs.calls.carried_on.Lts as lts
-use Rattle.command.proofs.answer.refused_call.Reads as refused-call-reads
+use Rattle.answers.proofs.refused_call.Reads as refused-call-reads
 use Rattle.command.proofs.hear.hear.Reads as hear-reads
 use Rattle.picture.proofs.repaint.repaint.Reads as repaint-reads
 

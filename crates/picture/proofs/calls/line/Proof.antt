@@ -3,7 +3,7 @@ use mathlib.Core.Bool.{Bool}
 use lib.ListN.{length}
 use borrow.Author.Tests.{not-true, not-false}
 use Rattle.framing.specs.declared.scan.Scanned.{Scanned}
-use Rattle.command.specs.Answer.{decided}
+use Rattle.answers.specs.Answer.{decided}
 use Rattle.picture.specs.Calls.{Lent, lent, checksOf, lineChecks, turnedAway, letThrough, CarriesOn}
 use Rattle.picture.proofs.LineCalls.{line-accepted, turned-away-line, let-through-line}
 use borrow.Author.Needs.{needs}
@@ -11,7 +11,7 @@ use Rattle.picture.proofs.calls.line.Statement.{statement}
 use Rattle.picture.proofs.calls.line.Tie as tie
 use Rattle.picture.proofs.calls.line.Reads as reads
 use Rattle.picture.proofs.calls.line.Lts as lts
-use Rattle.command.proofs.answer.refused_call.Reads as refused-call-reads
+use Rattle.answers.proofs.refused_call.Reads as refused-call-reads
 use Rattle.framing.proofs.scan.scan.Reads as scan-reads
 use Rattle.panel.proofs.ranges.in_ranges.Reads as in-ranges-reads
 use Rattle.picture.proofs.calls.carried_on.Reads as carried-on-reads

@@ -1,6 +1,6 @@
 use mathlib.Core.Path.{_∙_, sym}
 use borrow.Author.Tests.{not-true, not-false, le-leb, lt-leb, eq-eqb, ne-eqb}
-use Rattle.command.proofs.Checks.{here, later, refused-by, accepted-by}
+use Rattle.answers.proofs.Checks.{here, later, refused-by, accepted-by}
 use Rattle.picture.specs.Calls.{turnedAway, letThrough}
 use borrow.Author.Needs.{needs}
 use Rattle.picture.proofs.calls.line_checked.Statement.{statement}

@@ -1,5 +1,5 @@
 use borrow.Author.Tests.{eq-eqb, ne-eqb}
-use Rattle.command.proofs.Checks.{here, later}
+use Rattle.answers.proofs.Checks.{here, later}
 use Rattle.picture.proofs.LineCalls.{power-refused, power-accepted}
 use native.Mathlib.Omega.{arith}
 use borrow.Author.Needs.{needs}
@@ -7,7 +7,7 @@ use Rattle.picture.proofs.calls.power_on.Statement.{statement}
 use Rattle.picture.proofs.calls.power_on.Tie as tie
 use Rattle.picture.proofs.calls.power_on.Reads as reads
 use Rattle.picture.proofs.calls.power_on.Lts as lts
-use Rattle.command.proofs.answer.refused_call.Reads as refused-call-reads
+use Rattle.answers.proofs.refused_call.Reads as refused-call-reads
 use Rattle.panel.proofs.state.powered_on.Reads as powered-on-reads
 use Rattle.picture.proofs.calls.accepted.Reads as accepted-reads
 use Rattle.picture.proofs.repaint.draw_all.Reads as draw-all-reads

@@ -48,7 +48,7 @@ use Rattle.panel.specs.declared.state.Panel.{Panel}
 use Rattle.register.specs.declared.filing.Record.{Record}
 use Rattle.register.specs.declared.filing.Refusal.{Refusal}
 use Rattle.register.specs.Filing.{FilesIn}
-use Rattle.command.specs.declared.answer.Said.{Said}
+use Rattle.answers.specs.declared.Said.{Said}
 use Rattle.picture.specs.Calls.{Lent, lent}
 use Rattle.whole.specs.declared.line.Heard.{Heard}
 use Rattle.whole.specs.Whole.{withUnfiled, HearsAll, LineCall}
@@ -59,10 +59,10 @@ use Rattle.panel.proofs.state.Panel.Laws as P′
 use Rattle.register.proofs.filing.Record as T
 use Rattle.register.proofs.filing.Refusal as K
 use Rattle.register.proofs.filing.Refusal.Laws as K′
-use Rattle.command.proofs.answer.Filing as F
-use Rattle.command.proofs.answer.Filing.Laws as F′
-use Rattle.command.proofs.answer.Said as S
-use Rattle.command.proofs.answer.Said.Laws as S′
+use Rattle.answers.proofs.Filing as F
+use Rattle.answers.proofs.Filing.Laws as F′
+use Rattle.answers.proofs.Said as S
+use Rattle.answers.proofs.Said.Laws as S′
 use Rattle.whole.proofs.line.Heard as O
 use Rattle.whole.proofs.line.Heard.Laws as O′
 use Rattle.register.proofs.run.len as len

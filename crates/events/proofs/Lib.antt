@@ -1,0 +1,5 @@
+pub mod Bits
+pub mod Events
+pub mod InRange
+pub mod KeyCalls
+pub mod Theorems
