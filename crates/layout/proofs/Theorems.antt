@@ -7,13 +7,13 @@ use native.Mathlib.Omega.{arith}
 use lib.ListN.{length, getD}
 use Rattle.lists.specs.Promise.{Determined}
 use Rattle.lists.proofs.Theorems.{one}
-use Rattle.framing.specs.declared.hold.Hold.{Hold}
 use Rattle.panel.specs.declared.state.Panel.{Panel}
 use Rattle.register.specs.declared.filing.Record.{Record}
 use Rattle.register.specs.Filing.{blank}
 use Rattle.answers.specs.declared.Numbers.{Numbers}
-use Rattle.layout.specs.State.{bytesOf, panelOf, readable, PanelFits, ReadsState, WritesLine, WritesState}
-use Rattle.layout.specs.Faults.{registerBytes, registerOf, ReadsFaults, WritesFaults}
+use Rattle.layout.specs.Words.{ReadsWord, WritesWord}
+use Rattle.layout.specs.State.{bytesOf, panelOf, readable, PanelFits}
+use Rattle.layout.specs.Faults.{registerBytes, registerOf}
 use Rattle.layout.specs.Says.{saidBytes, Says}
 use Rattle.layout.proofs.ReadBack.{panel-back, readable-back, register-back, word-back}
 use Rattle.layout.proofs.WrittenBack.{bytes-back, faults-back}
@@ -47,20 +47,11 @@ unfolding saidBytes
 said-read-back n taken dropped checked reply listed ht hd hc hr hl = (omega arith, omega arith, word-back checked hc, omega arith, omega arith)
 
 -- For each public function, any two results that its promise allows are equal, the lent bytes included.
-pub state-read-determined : (state : List ℕ) → Determined (ReadsState state)
-state-read-determined state = one _
-
-pub state-write-determined : (state : List ℕ) (p : Panel) → Determined (WritesState state p)
-state-write-determined state p = one _
-
-pub state-write-line-determined : (state : List ℕ) (h : Hold) (unfiled : ℕ) → Determined (WritesLine state h unfiled)
-state-write-line-determined state h unfiled = one _
-
-pub faults-read-determined : (faults : List ℕ) → Determined (ReadsFaults faults)
-faults-read-determined faults = one _
-
-pub faults-write-determined : (faults : List ℕ) (records : List Record) → Determined (WritesFaults faults records)
-faults-write-determined faults records = one _
-
 pub says-write-determined : (n : Numbers) (taken dropped checked reply listed : ℕ) → Determined (Says n taken dropped checked reply listed)
 says-write-determined n taken dropped checked reply listed = one _
+
+pub word-of-determined : (a b c d : ℕ) → Determined (ReadsWord a b c d)
+word-of-determined a b c d = one _
+
+pub word-bytes-determined : (n : ℕ) → Determined (WritesWord n)
+word-bytes-determined n = one _

@@ -37,14 +37,6 @@ registerBytes records = recordsBytes 64 records
 unfoldable pub registerOf : List ℕ → List Record
 registerOf b = when length b =? 448 then recordsOf 64 b else replicate 64 blank
 
--- what `read` promises
-abbrev pub ReadsFaults : List ℕ → List Record → Type 0
-ReadsFaults faults r = r ≡ registerOf faults
-
 -- the bytes with the records written; left alone where they are no register
 unfoldable pub faultsWith : List ℕ → List Record → List ℕ
 faultsWith faults records = when length faults =? 448 then registerBytes records else faults
-
--- what `write` promises of the bytes
-abbrev pub WritesFaults : List ℕ → List Record → List ℕ → Type 0
-WritesFaults faults records faults′ = faults′ ≡ faultsWith faults records

@@ -9,10 +9,8 @@ use Rattle.framing.specs.declared.hold.Hold.{Hold}
 use Rattle.panel.specs.declared.state.Body.{Body}
 use Rattle.panel.specs.declared.state.Pins.{Pins}
 use Rattle.panel.specs.declared.state.Panel.{Panel}
-use Rattle.panel.specs.State.{poweredOn}
 use Rattle.layout.specs.Words.{wordOf, wordBytes}
 use Rattle.layout.specs.Settings.{run, SettingsSized, settingsOf, settingsBytes}
-use Rattle.layout.specs.declared.state.Reading.{Reading}
 
 -- "0 or 1 each"
 abbrev pub bitOf : Bool → ℕ
@@ -82,18 +80,6 @@ panelOf b = record { hold = holdOf b; body = bodyOf b; unfiled = wordOf (getD b 
 unfoldable pub readable : List ℕ → Bool
 readable b = (length b =? 402) && allAtMost 1 (run b 367 15)
 
--- what is read of bytes that are no state
-abbrev pub unread : Reading
-unread = record { readable = false; panel = poweredOn }
-
-unfoldable pub readingOf : List ℕ → Reading
-readingOf b =
-    when readable b then record { readable = true; panel = panelOf b } else unread
-
--- what `read` promises
-abbrev pub ReadsState : List ℕ → Reading → Type 0
-ReadsState state r = r ≡ readingOf state
-
 -- the bytes with the panel written; left alone where there are not 402
 unfoldable pub stateWith : List ℕ → Panel → List ℕ
 stateWith state p = when length state =? 402 then bytesOf p else state
@@ -101,11 +87,3 @@ stateWith state p = when length state =? 402 then bytesOf p else state
 -- the bytes with the hold and the unfiled number written, and the body as it stands
 unfoldable pub lineWith : List ℕ → Hold → ℕ → List ℕ
 lineWith state h unfiled = when length state =? 402 then holdBytes h ++ run state 26 372 ++ wordBytes unfiled else state
-
--- what `write_line` promises of the bytes
-abbrev pub WritesLine : List ℕ → Hold → ℕ → List ℕ → Type 0
-WritesLine state h unfiled state′ = state′ ≡ lineWith state h unfiled
-
--- what `write` promises of the bytes
-abbrev pub WritesState : List ℕ → Panel → List ℕ → Type 0
-WritesState state p state′ = state′ ≡ stateWith state p

@@ -1,6 +1,4 @@
-// The state, the register and what a call says, as the bytes that a C caller lends.
-pub mod faults;
+// What a C caller lends as bytes: numbers of four bytes, and what a call says. How the state and the register stand in their
+// bytes is in specs/.
 pub mod says;
-mod settings;
-pub mod state;
-mod words;
+pub mod words;

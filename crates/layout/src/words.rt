@@ -1,17 +1,16 @@
 // Numbers of four bytes, little end first.
-ghost use mathlib.Core.Path.{_≡_};
-ghost use Rattle.layout.specs.Words.{wordOf, wordBytes};
+ghost use Rattle.layout.specs.Words.{ReadsWord, WritesWord};
 
 // The number that four bytes are.
 pub fn word_of(a: u8, b: u8, c: u8, d: u8) -> u32
-    ensures { λ r. ⌜ r ≡ wordOf a b c d ⌝ }
+    ensures { λ r. ⌜ ReadsWord a b c d r ⌝ }
 {
     (a as u32) + 256 * (b as u32) + 65536 * (c as u32) + 16777216 * (d as u32)
 }
 
 // The four bytes of a number.
 pub fn word_bytes(n: u32) -> [u8; 4]
-    ensures { λ r. ⌜ r ≡ wordBytes n ⌝ }
+    ensures { λ r. ⌜ WritesWord n r ⌝ }
 {
     [
         (n % 256) as u8,

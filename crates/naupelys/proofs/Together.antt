@@ -33,9 +33,12 @@ use Rattle.picture.proofs.Turns.{nothing-repainted}
 use Rattle.picture.proofs.LineCalls.{by-number, turned-away, turned-away-line, let-through-line, line-accepted, carried-accepted}
 use Rattle.picture.specs.Calls.{checksOf, lineChecks, turnedAway, letThrough, ChecksLine, CarriesOn, shownBefore, Lent, Lines, lineSaid, linePicture, lineList, lineReply, PowersOn, powerChecks, powerSaid, acceptedCall}
 use Rattle.whole.specs.Whole.{withUnfiled}
-use Rattle.layout.specs.declared.state.Reading.{Reading}
-use Rattle.layout.specs.State.{bytesOf, bodyOf, panelOf, readable, readingOf, stateWith, ReadsState, WritesState}
-use Rattle.layout.specs.Faults.{registerOf, ReadsFaults, WritesFaults}
+use Rattle.unpacking.specs.declared.state.Reading.{Reading}
+use Rattle.layout.specs.State.{bytesOf, bodyOf, panelOf, readable, stateWith}
+use Rattle.unpacking.specs.State.{readingOf, ReadsState}
+use Rattle.packing.specs.State.{WritesState}
+use Rattle.layout.specs.Faults.{registerOf}
+use Rattle.faults.specs.Faults.{ReadsFaults, WritesFaults}
 use Rattle.layout.proofs.WrittenBack.{state-size, line-written}
 use Rattle.layout.specs.Says.{saidBytes, bytesSaid}
 use Rattle.naupelys.specs.Calls.{numberOf, noState, onState, stateAfter, filesBy, faultsAfter, lineFiled, PowerOnBytes, LineBytes, KeyBytes, PinBytes, Told, Refused, Waits, Ends, FilesBytes}

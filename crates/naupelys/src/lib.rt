@@ -37,7 +37,7 @@ fn no_state(said: &mut [u8; 16]) -> u8
 fn waited(state: &mut [u8], s: Scanned, unfiled: u32, said: &mut [u8; 16]) -> u8
     ensures { λ r. ⌜ Waits (now (state .entry)) s unfiled r (now (state .exit)) (now (said .exit)) ⌝ }
 {
-    layout::state::write_line(state, s.hold, unfiled);
+    packing::state::write_line(state, s.hold, unfiled);
     let n = answers::told(Answer::Waiting);
     layout::says::write(said, n, s.taken, s.dropped, s.checked, 0, 0);
     n.number
@@ -49,7 +49,7 @@ fn ended(state: &mut [u8], s: Said, said: &mut [u8; 16]) -> u8
 {
     let number = told(said, s);
     if number < 10 {
-        layout::state::write(state, s.panel);
+        packing::state::write(state, s.panel);
     }
     number
 }
@@ -69,10 +69,10 @@ fn file(faults: &mut [u8], answer: Answer, unfiled: u32) -> u32
     if !f.refused {
         return unfiled;
     }
-    let records = layout::faults::read(faults);
+    let records = faults::read(faults);
     let r = register::run::file_in(records, f.refused, f.key, unfiled);
     let left = r.register;
-    layout::faults::write(faults, left);
+    faults::write(faults, left);
     r.unfiled
 }
 
@@ -90,7 +90,7 @@ pub extern "C" fn naupelys_power_on(
         return no_state(said);
     }
     let on = picture::calls::power_on(picture, font);
-    layout::state::write(state, on.panel);
+    packing::state::write(state, on.panel);
     told(said, on)
 }
 
@@ -108,7 +108,7 @@ pub extern "C" fn naupelys_line(
 ) -> u8
     ensures { λ r. ⌜ LineBytes (now (state .entry)) (lent (now (piece .entry)) (now (picture .entry)) (now (font .entry)) (now (list .entry)) (now (reply .entry)) (recordsIn (length (now (faults .entry))))) (now (faults .entry)) r (now (state .exit)) (now (picture .exit)) (now (list .exit)) (now (reply .exit)) (now (faults .exit)) (now (said .exit)) ⌝ }
 {
-    let r = layout::state::read(state);
+    let r = unpacking::state::read(state);
     let in_ranges = panel::ranges::in_ranges(r.panel);
     let c = picture::calls::line_checked(
         r.readable & in_ranges,
@@ -145,7 +145,7 @@ pub extern "C" fn naupelys_key(
 ) -> u8
     ensures { λ r. ⌜ KeyBytes (now (state .entry)) key down (now (reply .entry)) r (now (state .exit)) (now (reply .exit)) (now (said .exit)) ⌝ }
 {
-    let r = layout::state::read(state);
+    let r = unpacking::state::read(state);
     if !r.readable {
         return no_state(said);
     }
@@ -158,7 +158,7 @@ pub extern "C" fn naupelys_key(
 pub extern "C" fn naupelys_pin(state: &mut [u8], pin: u8, high: bool, said: &mut [u8; 16]) -> u8
     ensures { λ r. ⌜ PinBytes (now (state .entry)) pin high r (now (state .exit)) (now (said .exit)) ⌝ }
 {
-    let r = layout::state::read(state);
+    let r = unpacking::state::read(state);
     if !r.readable {
         return no_state(said);
     }

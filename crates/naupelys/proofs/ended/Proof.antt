@@ -6,7 +6,7 @@ use Rattle.naupelys.proofs.ended.Statement.{statement}
 use Rattle.naupelys.proofs.ended.Tie as tie
 use Rattle.naupelys.proofs.ended.Reads as reads
 use Rattle.naupelys.proofs.ended.Lts as lts
-use Rattle.layout.proofs.state.write.Reads as write-reads
+use Rattle.packing.proofs.state.write.Reads as write-reads
 use Rattle.naupelys.proofs.told.Reads as told-reads
 
 told-requires : tie.Need-told-requires

@@ -6,8 +6,8 @@ use Rattle.naupelys.proofs.file.Tie as tie
 use Rattle.naupelys.proofs.file.Reads as reads
 use Rattle.naupelys.proofs.file.Lts as lts
 use Rattle.answers.proofs.to_file.Reads as to-file-reads
-use Rattle.layout.proofs.faults.read.Reads as read-reads
-use Rattle.layout.proofs.faults.write.Reads as write-reads
+use Rattle.faults.proofs.read.Reads as read-reads
+use Rattle.faults.proofs.write.Reads as write-reads
 use Rattle.register.proofs.run.file_in.Reads as file-in-reads
 
 to-file-requires : tie.Need-to-file-requires

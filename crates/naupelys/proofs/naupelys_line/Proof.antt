@@ -13,7 +13,7 @@ use Rattle.naupelys.proofs.naupelys_line.Tie as tie
 use Rattle.naupelys.proofs.naupelys_line.Reads as reads
 use Rattle.naupelys.proofs.naupelys_line.Lts as lts
 use Rattle.framing.proofs.scan.scan.Reads as scan-reads
-use Rattle.layout.proofs.state.read.Reads as read-reads
+use Rattle.unpacking.proofs.state.read.Reads as read-reads
 use Rattle.naupelys.proofs.ended.Reads as ended-reads
 use Rattle.naupelys.proofs.file.Reads as file-reads
 use Rattle.naupelys.proofs.records_in.Reads as records-in-reads

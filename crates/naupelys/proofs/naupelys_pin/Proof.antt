@@ -6,7 +6,7 @@ use Rattle.naupelys.proofs.naupelys_pin.Tie as tie
 use Rattle.naupelys.proofs.naupelys_pin.Reads as reads
 use Rattle.naupelys.proofs.naupelys_pin.Lts as lts
 use Rattle.events.proofs.pins.pin.Reads as pin-reads
-use Rattle.layout.proofs.state.read.Reads as read-reads
+use Rattle.unpacking.proofs.state.read.Reads as read-reads
 use Rattle.naupelys.proofs.ended.Reads as ended-reads
 use Rattle.naupelys.proofs.no_state.Reads as no-state-reads
 

@@ -9,7 +9,7 @@ use Rattle.naupelys.proofs.waited.Reads as reads
 use Rattle.naupelys.proofs.waited.Lts as lts
 use Rattle.answers.proofs.told.Reads as told-reads
 use Rattle.layout.proofs.says.write.Reads as write-reads
-use Rattle.layout.proofs.state.write_line.Reads as write-line-reads
+use Rattle.packing.proofs.state.write_line.Reads as write-line-reads
 
 write-line-requires : tie.Need-write-line-requires
 write-line-requires c κs = search needs

@@ -1,0 +1,84 @@
+use Prim.Native.Nat.{ℕ, _≤_, _-_}
+use mathlib.Core.Path.{_≡_, refl, sym, _∙_, ap}
+use mathlib.Core.List.{List, _++_}
+use lib.ListN.{length, drop, length-replicate}
+use native.Mathlib.Omega.{arith}
+use borrow.Author.Needs.{needs}
+use borrow.Author.Tests.{eq-eqb, ne-eqb}
+use Rattle.lists.proofs.Laws.{when-true, when-false, whole-front}
+use Rattle.register.specs.Filing.{blank}
+use Rattle.layout.specs.Faults.{recordsOf, registerOf}
+use Rattle.layout.proofs.Records.{read-turn, read-all}
+use Rattle.faults.proofs.read.Statement.{statement}
+use Rattle.faults.proofs.read.Tie as tie
+use Rattle.faults.proofs.read.Reads as reads
+use Rattle.faults.proofs.read.Lts as lts
+use Rattle.faults.proofs.record_at.Reads as record-at-reads
+use Rattle.register.proofs.run.empty.Reads as empty-reads
+
+abbrev Inv-loop : tie.InvT-loop
+Inv-loop faults records₀ i₀ records i = (i ≤ 64) × (records ≡ recordsOf i faults ++ drop i records₀)
+
+abbrev μ-loop : tie.MeasureT-loop
+μ-loop faults records₀ i₀ records i = 64 - i
+
+empty-requires : tie.Need-empty-requires Inv-loop μ-loop
+empty-requires c κs = search needs
+
+returns : tie.Need-returns Inv-loop μ-loop
+unfolding registerOf
+returns c = c .before .empty .ensures ∙ sym (when-false _ _ _ (ne-eqb _ _ (c .if1 .taken)))
+
+loop-holds : tie.Need-loop-holds Inv-loop μ-loop
+unfolding recordsOf
+loop-holds c = search needs
+
+record-at-requires : tie.Need-record-at-requires Inv-loop μ-loop
+record-at-requires c κs = search needs
+
+mul-records : tie.Need-mul-records Inv-loop μ-loop
+mul-records c = search needs
+
+array-set-from-records : tie.Need-array-set-from-records Inv-loop μ-loop
+array-set-from-records c = search needs
+
+add-i : tie.Need-add-i Inv-loop μ-loop
+add-i c = search needs
+
+loop-less : tie.Need-loop-less Inv-loop μ-loop
+loop-less c = search needs
+
+loop-again : tie.Need-loop-again Inv-loop μ-loop
+loop-again c =
+    let l = c .before .before .loop in
+    let e = c .before .before .before .before .before .before in
+    let o = c .before .before .before .before .empty in
+    let h : length (o .result) ≡ 64 = ap length (o .ensures) ∙ length-replicate 64 blank in
+    (search needs, rw (l .inv .1, c .record-at .ensures) (read-turn (l .i) (e .args .faults .now) (o .result) (omega arith)))
+
+returns-2 : tie.Need-returns-2 Inv-loop μ-loop
+unfolding registerOf
+returns-2 c =
+    let l = c .before .loop in
+    let b = c .before .before .before .before .before .args .faults .now in
+    let o = c .before .before .before .empty in
+    let h : length (o .result) ≡ 64 = ap length (o .ensures) ∙ length-replicate 64 blank in
+    let e : l .i ≡ 64 = omega arith in
+    l .inv .1 ∙ rw e (read-all 64 b (o .result) (omega arith)) ∙ sym (when-true _ _ _ (eq-eqb _ _ (c .before .before .if1 .left)))
+
+pub read-spec : {M : Type 1} → statement M
+read-spec =
+    tie.close
+    (tie.spec
+    Inv-loop
+    μ-loop
+    empty-requires
+    returns
+    loop-holds
+    record-at-requires
+    mul-records
+    array-set-from-records
+    add-i
+    loop-less
+    loop-again
+    returns-2)

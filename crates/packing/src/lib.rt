@@ -1,0 +1,3 @@
+// The state as the bytes that a C caller lends.
+mod settings;
+pub mod state;

@@ -1,0 +1,3 @@
+// The state from the bytes that a C caller lends.
+mod settings;
+pub mod state;
