@@ -3,7 +3,7 @@ use mathlib.Core.Path.{_≡_, refl}
 use lib.ListN.{length}
 use Rattle.lists.specs.Promise.{Determined}
 use Rattle.lists.proofs.Theorems.{one}
-use Rattle.framing.specs.declared.packet.Packet.{Packet}
+use Rattle.packets.specs.declared.packet.Packet.{Packet}
 use Rattle.panel.specs.declared.state.Body.{Body}
 use Rattle.carry.specs.Carry.{version, Carries}
 

@@ -6,8 +6,8 @@ use mathlib.Core.List.{List, [], _∷_}
 use lib.ListN.{length, getD, take, drop, set, replicate}
 use Rattle.lists.specs.Tests.{when_then_else_, _<?_, _=?_}
 use Rattle.lists.specs.Runs.{pasted}
-use Rattle.framing.specs.declared.packet.Packet.{Packet}
-use Rattle.framing.specs.Packet.{packetOf}
+use Rattle.packets.specs.declared.packet.Packet.{Packet}
+use Rattle.packets.specs.Packet.{packetOf}
 use Rattle.panel.specs.declared.state.Settings.{Settings}
 use Rattle.panel.specs.declared.state.Keys.{Keys}
 use Rattle.panel.specs.declared.state.Pins.{Pins}

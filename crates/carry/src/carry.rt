@@ -1,7 +1,7 @@
 // A packet's command carried out.
 ghost use mathlib.Core.Path.{_≡_};
 ghost use Rattle.carry.specs.Carry.{Carries};
-use framing::packet::Packet;
+use packets::packet::Packet;
 use panel::state::Body;
 
 // The body after a command, and its reply.

@@ -1,7 +1,7 @@
 // Cases of the framing.
-use framing::hold::Hold;
-use framing::packet::Packet;
 use framing::scan::Scanned;
+use packets::hold::Hold;
+use packets::packet::Packet;
 
 // What calls come to, besides their packets.
 pub struct Sums {
@@ -12,7 +12,7 @@ pub struct Sums {
 
 pub fn nothing_held() -> Sums {
     Sums {
-        hold: framing::hold::empty(),
+        hold: packets::hold::empty(),
         dropped: 0,
         checked: 0,
     }
@@ -94,7 +94,7 @@ pub fn compose(bytes: &[u8]) {
     crate::text::word(b"compose");
     if 0 < bytes.len() {
         let mut out = [0u8; 26];
-        let n = framing::packet::compose(&mut out, bytes[0], &bytes[1..]);
+        let n = packets::packet::compose(&mut out, bytes[0], &bytes[1..]);
         crate::text::bytes(&out[..lists::at_most(n, 26)]);
     }
     crate::text::word(b"\n");
@@ -102,6 +102,6 @@ pub fn compose(bytes: &[u8]) {
 
 pub fn checksum(bytes: &[u8]) {
     crate::text::word(b"sum ");
-    crate::text::hex4(framing::fcs::checksum(bytes));
+    crate::text::hex4(packets::fcs::checksum(bytes));
     crate::text::word(b"\n");
 }

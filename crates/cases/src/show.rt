@@ -143,6 +143,6 @@ pub fn cell(picture: &[u8], number: u8) {
 // The checksum of the whole picture.
 pub fn picture(bytes: &[u8]) {
     crate::text::word(b"picture ");
-    crate::text::hex4(framing::fcs::checksum(bytes));
+    crate::text::hex4(packets::fcs::checksum(bytes));
     crate::text::word(b"\n");
 }

@@ -8,10 +8,10 @@ use lib.ListN.{length}
 use Rattle.lists.specs.Tests.{when_then_else_}
 use Rattle.lists.specs.Runs.{front}
 use Rattle.lists.proofs.Laws.{when-true}
-use Rattle.framing.specs.declared.packet.Packet.{Packet}
-use Rattle.framing.specs.declared.hold.Hold.{Hold}
-use Rattle.framing.specs.Packet.{packetBytes, composedLength, composed}
-use Rattle.framing.proofs.Composing.{fitting}
+use Rattle.packets.specs.declared.packet.Packet.{Packet}
+use Rattle.packets.specs.declared.hold.Hold.{Hold}
+use Rattle.packets.specs.Packet.{packetBytes, composedLength, composed}
+use Rattle.packets.proofs.Composing.{fitting}
 use Rattle.framing.proofs.Theorems.{held-at-most-25}
 use Rattle.panel.specs.declared.state.Body.{Body}
 use Rattle.panel.specs.declared.state.Panel.{Panel}

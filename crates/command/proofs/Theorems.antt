@@ -8,8 +8,8 @@ use lib.ListN.{length}
 use Rattle.lists.specs.Promise.{Determined}
 use Rattle.lists.specs.Runs.{front}
 use Rattle.lists.proofs.Theorems.{one, and}
+use Rattle.packets.specs.Packet.{packetBytes}
 use Rattle.framing.specs.declared.scan.Scanned.{Scanned}
-use Rattle.framing.specs.Packet.{packetBytes}
 use Rattle.verdict.specs.declared.verdict.Reason.{Reason}
 use Rattle.verdict.specs.declared.verdict.Verdict.the-variants.{Allowed}
 use Rattle.verdict.specs.Verdict.{verdictOf}

@@ -3,8 +3,8 @@ use Prim.Native.Nat.{ℕ, _+_, _%_}
 use mathlib.Core.Bool.{true, false}
 use mathlib.Core.List.{[]}
 use Rattle.lists.specs.Tests.{when_then_else_, _<?_}
-use Rattle.framing.specs.declared.packet.Packet.{Packet}
-use Rattle.framing.specs.Packet.{packetOf}
+use Rattle.packets.specs.declared.packet.Packet.{Packet}
+use Rattle.packets.specs.Packet.{packetOf}
 use Rattle.verdict.specs.declared.verdict.Verdict.{Verdict}
 use Rattle.verdict.specs.declared.verdict.Verdict.the-variants as verdicts
 use Rattle.verdict.specs.Verdict.{verdictOf}

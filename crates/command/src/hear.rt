@@ -3,7 +3,7 @@ ghost use mathlib.Core.Path.{_≡_};
 ghost use Rattle.command.specs.Hear.{writtenLength, written, Hears};
 use answers::Answer;
 use answers::Said;
-use framing::packet::Packet;
+use packets::packet::Packet;
 use framing::scan::Scanned;
 use panel::state::Panel;
 
@@ -57,5 +57,5 @@ fn write(replies: bool, reply: Packet, out: &mut [u8]) -> usize
     }
     let content = reply.content;
     let n = lists::at_most(reply.length, 22);
-    framing::packet::compose(out, reply.kind, &content[..n])
+    packets::packet::compose(out, reply.kind, &content[..n])
 }

@@ -1,10 +1,10 @@
 // A packet from the line: a stray, a done command or a refusal.
 ghost use mathlib.Core.Path.{_≡_};
 ghost use mathlib.Core.List.{[]};
-ghost use Rattle.framing.specs.Packet.{packetOf};
+ghost use Rattle.packets.specs.Packet.{packetOf};
 ghost use Rattle.command.specs.Step.{stepOf};
 use answers::Answer;
-use framing::packet::Packet;
+use packets::packet::Packet;
 use panel::state::Body;
 use verdict::verdict::Verdict;
 

@@ -6,8 +6,8 @@ use mathlib.Core.List.{List, [], _∷_}
 use native.Mathlib.Omega.{arith}
 use borrow.Author.Tests.{eqb-true, leb-true}
 use Rattle.lists.proofs.Laws.{when-true, when-false}
-use Rattle.framing.specs.Packet.{composedLength, composed, Composes}
-use Rattle.framing.proofs.Composing.{fitting}
+use Rattle.packets.specs.Packet.{composedLength, composed, Composes}
+use Rattle.packets.proofs.Composing.{fitting}
 use Rattle.panel.specs.declared.state.Keys.{Keys}
 use Rattle.panel.specs.declared.state.Panel.{Panel}
 use Rattle.panel.specs.Ranges.{inRanges}

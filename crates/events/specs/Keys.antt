@@ -6,7 +6,7 @@ use mathlib.Core.List.{List, [], _∷_}
 use lib.ListN.{length, getD}
 use Rattle.lists.specs.Tests.{when_then_else_, _≤?_, _=?_}
 use Rattle.lists.specs.Runs.{front}
-use Rattle.framing.specs.Packet.{packetBytes}
+use Rattle.packets.specs.Packet.{packetBytes}
 use Rattle.panel.specs.declared.state.Settings.{Settings}
 use Rattle.panel.specs.declared.state.Keys.{Keys}
 use Rattle.panel.specs.declared.state.Body.{Body}

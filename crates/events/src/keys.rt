@@ -101,7 +101,7 @@ pub fn key(p: Panel, number: u8, down: bool, reply: &mut [u8]) -> Said
     q.body = b;
     let mut written = 0;
     if is_on(mask_for(live, down), number) {
-        written = framing::packet::compose(reply, 128, &[report_code(number, down)]);
+        written = packets::packet::compose(reply, 128, &[report_code(number, down)]);
     }
     Said {
         panel: q,

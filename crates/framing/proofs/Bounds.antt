@@ -4,11 +4,11 @@ use mathlib.Core.List.{List, [], _∷_, _++_}
 use Prim.Native.Nat.{ℕ, suc, _+_, _*_, _≤_}
 use native.Mathlib.Omega.{arith}
 use lib.ListN.{length, length-append, length-drop}
-use Rattle.framing.specs.declared.judge.Judgement.{Judgement}
-use Rattle.framing.specs.declared.judge.Judgement.the-variants.{Wait, LongLength, WrongChecksum, Packet}
-use Rattle.framing.specs.Judge.{lengthByte, judge}
+use Rattle.packets.specs.declared.judge.Judgement.{Judgement}
+use Rattle.packets.specs.declared.judge.Judgement.the-variants.{Wait, LongLength, WrongChecksum, Packet}
+use Rattle.packets.specs.Judge.{lengthByte, judge}
+use Rattle.packets.proofs.Judgements.{Seen, short, part, wrong, whole, see}
 use Rattle.framing.specs.Scan.{Ending, waiting, packet, Outcome, settleAt, settle, goOn, scan}
-use Rattle.framing.proofs.Judgements.{Seen, short, part, wrong, whole, see}
 use Rattle.framing.proofs.Lines.{settle-taken}
 
 -- the least that an ending takes off the line

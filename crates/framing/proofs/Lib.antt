@@ -1,10 +1,10 @@
-pub mod Bytes
 pub mod Bounds
-pub mod Composing
+pub mod Composed
 pub mod Cuts
-pub mod Judgements
+pub mod Endings
 pub mod Lines
 pub mod Steps
 pub mod Theorems
 pub mod Turns
+pub mod Waits
 pub mod Windows

@@ -8,15 +8,15 @@ use native.Mathlib.Omega.{arith}
 use lib.ListN.{length, getD, take, drop}
 use lib.Seq.{append-snoc}
 use Rattle.lists.specs.Tests.{when_then_else_}
-use Rattle.framing.specs.declared.judge.Judgement.{Judgement}
-use Rattle.framing.specs.declared.judge.Judgement.the-variants.{Wait, LongLength, WrongChecksum, Packet}
-use Rattle.framing.specs.declared.packet.Packet as packets
-use Rattle.framing.specs.Packet.{packetOf}
-use Rattle.framing.specs.Hold.{holdOf}
-use Rattle.framing.specs.Judge.{lengthByte, judge}
-use Rattle.framing.specs.Scan.{Ending, waiting, packet, packetAt, Outcome, settleAt, settle, goOn, scan, scannedOf}
+use Rattle.packets.specs.declared.judge.Judgement.{Judgement}
+use Rattle.packets.specs.declared.judge.Judgement.the-variants.{Wait, LongLength, WrongChecksum, Packet}
+use Rattle.packets.specs.declared.packet.Packet as packets
+use Rattle.packets.specs.Packet.{packetOf}
+use Rattle.packets.specs.Hold.{holdOf}
+use Rattle.packets.specs.Judge.{lengthByte, judge}
+use Rattle.packets.proofs.Judgements.{more-long, more-wrong, more-packet}
+use Rattle.framing.specs.Scan.{Ending, waiting, packet, Outcome, settleAt, settle, goOn, scan, scannedOf}
 use Rattle.framing.specs.Line.{Tally, nothingMore, onto, packetsIn, counted, lineAt, lineFrom, line}
-use Rattle.framing.proofs.Judgements.{more-long, more-wrong, more-packet}
 
 abbrev packetsOf : Ending → List packets.Packet
 packetsOf waiting = []
@@ -54,7 +54,7 @@ settled-at b h s Packet e ih =
     let m = more-packet (b ∷ h) s e in
     let n = lengthByte (b ∷ h) in
     let t : lineFrom (n + 3) (h ++ s) ≡ line (drop (n + 4) (b ∷ h) ++ s) = passed (n + 3) (h ++ s) ∙ ap line (tail n b (h ++ s) ∙ m .behind) in
-    rw (m .judged, m .sized, t) (ap (λ (p : packets.Packet). onto (p ∷ []) 0 (n + 2) (line (drop (n + 4) (b ∷ h) ++ s))) (ap packetAt (m .ending)))
+    rw (m .judged, m .sized, t, m .kind, m .content)
 
 settled : (h s : List ℕ) → line (h ++ s) ≡ noted (settle h) (line (settle h .hold ++ s))
 unfolding settle

@@ -7,11 +7,11 @@ use native.Mathlib.Numerals.{one-add}
 use native.Mathlib.Omega.{arith}
 use lib.ListN.{length, take, drop}
 use lib.Seq.{append-snoc}
-use Rattle.framing.specs.declared.judge.Judgement.{Judgement}
-use Rattle.framing.specs.declared.judge.Judgement.the-variants.{Wait, LongLength, WrongChecksum, Packet}
-use Rattle.framing.specs.Judge.{lengthByte, judge}
+use Rattle.packets.specs.declared.judge.Judgement.{Judgement}
+use Rattle.packets.specs.declared.judge.Judgement.the-variants.{Wait, LongLength, WrongChecksum, Packet}
+use Rattle.packets.specs.Judge.{lengthByte, judge}
+use Rattle.packets.proofs.Judgements.{Seen, long, wrong, whole, see}
 use Rattle.framing.specs.Scan.{Ending, waiting, packet, Outcome, still, after, found, settleAt, settle, goOn, scan}
-use Rattle.framing.proofs.Judgements.{Seen, long, wrong, whole, see}
 
 -- settling begins with the judgement of the oldest
 settle-at : (h : List ℕ) (j : Judgement) → 0 < length h → judge h ≡ j → settle h ≡ settleAt j h (settle (drop 1 h))

@@ -5,17 +5,15 @@ use Prim.Native.Nat.{ℕ, _+_, _*_, _≤_}
 use native.Mathlib.Omega.{arith}
 use lib.ListN.{length, take, length-take}
 use Rattle.lists.specs.Promise.{Determined}
-use Rattle.lists.proofs.Theorems.{one, and}
-use Rattle.framing.specs.declared.hold.Hold.{Hold}
+use Rattle.lists.proofs.Theorems.{one}
+use Rattle.packets.specs.declared.hold.Hold.{Hold}
+use Rattle.packets.specs.Packet.{packetBytes, packetOf}
+use Rattle.packets.specs.Hold.{held}
 use Rattle.framing.specs.declared.scan.Scanned.{Scanned}
-use Rattle.framing.specs.Fcs.{Sums}
-use Rattle.framing.specs.Packet.{packetBytes, packetOf, Composes}
-use Rattle.framing.specs.Hold.{held, Empties}
-use Rattle.framing.specs.Judge.{Judges}
 use Rattle.framing.specs.Scan.{scannedOf, Scans}
 use Rattle.framing.specs.Line.{Tally, Calls, onto, line}
 use Rattle.framing.proofs.Bounds as bounds
-use Rattle.framing.proofs.Composing as composing
+use Rattle.framing.proofs.Composed as composed
 use Rattle.framing.proofs.Cuts as cuts
 
 module _ (hold : Hold) (piece : List ℕ) (r : Scanned) (scanned : Scans hold piece r) where
@@ -46,20 +44,8 @@ calls-end most room hold bytes = cuts.ends most room hold bytes
 -- A packet that was composed is found again, with nothing dropped, whatever follows it on the line.
 pub composed-is-found : (kind : ℕ) (content s : List ℕ) → length content ≤ 22
     → line (packetBytes kind content ++ s) ≡ onto (packetOf kind content ∷ []) 0 (length content + 2) (line s)
-composed-is-found kind content s l = composing.composed-line kind content l s
+composed-is-found kind content s l = composed.composed-line kind content l s
 
--- For each public function, any two results that its promise allows are equal, lent buffers included.
-pub checksum-determined : (bytes : List ℕ) → Determined (Sums bytes)
-checksum-determined bytes = one _
-
-pub empty-determined : Determined Empties
-empty-determined = one _
-
-pub judge-determined : (h : List ℕ) → Determined (Judges h)
-judge-determined h = one _
-
-pub compose-determined : (out : List ℕ) (kind : ℕ) (content : List ℕ) → Determined (λ (x : ℕ × List ℕ). Composes out kind content (x .0) (x .1))
-compose-determined out kind content = and (one _) (one _)
-
+-- Any two results that the promise of `scan` allows are equal.
 pub scan-determined : (hold : Hold) (piece : List ℕ) → Determined (Scans hold piece)
 scan-determined hold piece = one _

@@ -8,13 +8,14 @@ use native.Mathlib.Omega.{arith}
 use lib.ListN.{length, take, drop, getD, length-append, length-take, length-drop, drop-of-length-le}
 use lib.Seq.{length-take-le, take-add, drop-drop, getD-take, getD-drop, take-append-le, drop-append-le}
 use Rattle.lists.proofs.Laws.{part, when-true, when-false}
-use Rattle.framing.specs.declared.judge.Judgement.the-variants.{Wait, LongLength, WrongChecksum, Packet}
+use Rattle.packets.specs.declared.judge.Judgement.the-variants.{Wait, LongLength, WrongChecksum, Packet}
+use Rattle.packets.specs.Judge.{lengthByte, judge}
+use Rattle.packets.proofs.Judgements as seen
+use Rattle.packets.proofs.Judgements.{Seen, see}
 use Rattle.framing.specs.declared.scan.Walked.{Walked}
-use Rattle.framing.specs.Judge.{lengthByte, judge}
 use Rattle.framing.specs.Scan.{still, after, found}
 use Rattle.framing.specs.Walk.{between, from, needed, Stands, Walks}
-use Rattle.framing.proofs.Judgements as seen
-use Rattle.framing.proofs.Judgements.{Seen, see, waits-for, more-wait}
+use Rattle.framing.proofs.Waits.{waits-for, more-wait}
 use Rattle.framing.proofs.Steps.{takes, ends-waiting, finds, drops-long, drops-wrong, after-after}
 
 pub first-turn : (bytes : List ℕ) (s e : ℕ) → s ≤ e → e ≤ s + 26 → e ≤ length bytes → Stands bytes s e s e 0

@@ -9,10 +9,10 @@ use lib.ListN.{length, take, drop, replicate, length-take, length-drop, length-a
 use lib.Seq.{paste, take-paste, take-all, length-take-le, take-append-le, drop-append-le, take-at, drop-at, drop-drop}
 use Rattle.lists.specs.Runs.{pasted}
 use Rattle.lists.proofs.Laws.{pasted-fits, length-pasted}
+use Rattle.packets.proofs.Bytes.{padding}
 use Rattle.framing.specs.declared.scan.Walked.{Walked}
 use Rattle.framing.specs.Scan.{still, after, found, scan}
 use Rattle.framing.specs.Walk.{between, from, Walks}
-use Rattle.framing.proofs.Bytes.{padding}
 use Rattle.framing.proofs.Turns.{waits, is-packet, is-wait, brought, used-up}
 
 -- w is c bytes of the hold b, and then n of the piece p: all of b was laid down, and the piece over what is behind c

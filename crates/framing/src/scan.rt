@@ -3,13 +3,13 @@
 ghost use mathlib.Core.Path.{_≡_};
 ghost use Prim.Native.Nat.{_+_, _≤_};
 ghost use lib.ListN.{length, take, drop};
-ghost use Rattle.framing.specs.Judge.{lengthByte};
-ghost use Rattle.framing.specs.Hold.{held, holdOf};
+ghost use Rattle.packets.specs.Judge.{lengthByte};
+ghost use Rattle.packets.specs.Hold.{held, holdOf};
 ghost use Rattle.framing.specs.Scan.{still, after, found, scan, scannedOf, Scans};
 ghost use Rattle.framing.specs.Walk.{needed, from, Walks};
-use crate::hold::Hold;
-use crate::judge::Judgement;
-use crate::packet::Packet;
+use packets::hold::Hold;
+use packets::judge::Judgement;
+use packets::packet::Packet;
 
 // What a call finds and reports. Where no packet was found, the packet is all zeros.
 pub struct Scanned {
@@ -108,7 +108,7 @@ fn walk(bytes: &[u8], first: usize, next: usize) -> Walked
     let mut end = next;
     let mut checked = 0;
     loop {
-        let j = crate::judge::judge(&bytes[start..end]);
+        let j = packets::judge::judge(&bytes[start..end]);
         match j {
             Judgement::Wait => {
                 if end < bytes.len() {

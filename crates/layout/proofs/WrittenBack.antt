@@ -14,7 +14,7 @@ use Rattle.lists.proofs.Laws.{when-true}
 use Rattle.panel.proofs.Flat.{elements}
 use Rattle.panel.proofs.Every.{all-every, every-at}
 use Rattle.register.specs.Filing.{blank}
-use Rattle.framing.specs.declared.hold.Hold.{Hold}
+use Rattle.packets.specs.declared.hold.Hold.{Hold}
 use Rattle.layout.specs.Words.{wordOf, wordBytes}
 use Rattle.layout.specs.Settings.{run, settingsBytes, settingsOf}
 use Rattle.layout.specs.State.{bitOf, fiveBits, fiveAt, pinsBytes, bodyBytes, bytesOf, holdOf, bodyOf, panelOf, readable, stateWith, lineWith}

@@ -5,7 +5,7 @@ use mathlib.Core.Bool.{Bool, true, false, _&&_}
 use mathlib.Core.List.{List, [], _∷_, _++_}
 use lib.ListN.{length, getD}
 use Rattle.lists.specs.Tests.{when_then_else_, _=?_, allAtMost}
-use Rattle.framing.specs.declared.hold.Hold.{Hold}
+use Rattle.packets.specs.declared.hold.Hold.{Hold}
 use Rattle.panel.specs.declared.state.Body.{Body}
 use Rattle.panel.specs.declared.state.Pins.{Pins}
 use Rattle.panel.specs.declared.state.Panel.{Panel}

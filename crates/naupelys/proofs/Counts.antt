@@ -8,9 +8,9 @@ use borrow.Author.Tests.{leb-true}
 use lib.ListN.{length, take, length-take}
 use Rattle.lists.specs.Tests.{_=?_}
 use Rattle.lists.proofs.Laws.{when-either}
-use Rattle.framing.specs.declared.packet.Packet.{Packet}
-use Rattle.framing.specs.Packet.{composedLength}
-use Rattle.framing.specs.Hold.{held}
+use Rattle.packets.specs.declared.packet.Packet.{Packet}
+use Rattle.packets.specs.Packet.{composedLength}
+use Rattle.packets.specs.Hold.{held}
 use Rattle.framing.specs.Scan.{scannedOf}
 use Rattle.framing.proofs.Bounds as bounds
 use Rattle.panel.specs.declared.state.Panel.{Panel}

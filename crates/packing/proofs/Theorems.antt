@@ -3,7 +3,7 @@ use Prim.Native.Nat.{ℕ}
 use mathlib.Core.List.{List}
 use Rattle.lists.specs.Promise.{Determined}
 use Rattle.lists.proofs.Theorems.{one}
-use Rattle.framing.specs.declared.hold.Hold.{Hold}
+use Rattle.packets.specs.declared.hold.Hold.{Hold}
 use Rattle.panel.specs.declared.state.Panel.{Panel}
 use Rattle.packing.specs.State.{WritesLine, WritesState}
 

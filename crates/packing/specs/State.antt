@@ -2,7 +2,7 @@
 use Prim.Native.Nat.{ℕ}
 use mathlib.Core.Path.{_≡_}
 use mathlib.Core.List.{List}
-use Rattle.framing.specs.declared.hold.Hold.{Hold}
+use Rattle.packets.specs.declared.hold.Hold.{Hold}
 use Rattle.panel.specs.declared.state.Panel.{Panel}
 use Rattle.layout.specs.State.{stateWith, lineWith}
 

@@ -5,7 +5,7 @@ ghost use Rattle.lists.specs.Runs.{pasted};
 ghost use Rattle.layout.specs.State.{bitOf, fiveBits, holdBytes, pinsBytes, bodyBytes};
 ghost use Rattle.packing.specs.State.{WritesLine, WritesState};
 use crate::settings::lay;
-use framing::hold::Hold;
+use packets::hold::Hold;
 use panel::state::Body;
 use panel::state::Panel;
 use panel::state::Pins;

@@ -1,7 +1,7 @@
 // The panel's state, by value: the hold, the body and the unfiled number never read each other.
 ghost use mathlib.Core.Path.{_≡_};
 ghost use Rattle.panel.specs.State.{StartsSettings, Starts};
-use framing::hold::Hold;
+use packets::hold::Hold;
 
 // What command 4 stores and command 5 brings back. `press` and `release` are the masks of key reports; the glyphs are eight
 // rows each, one glyph behind the other; levels are of all 13 pins, configs of pins 0 to 4.
@@ -89,7 +89,7 @@ pub fn powered_on() -> Panel
         pins,
         flash: [0u8; 16],
     };
-    let hold = framing::hold::empty();
+    let hold = packets::hold::empty();
     Panel {
         hold,
         body,

@@ -17,7 +17,7 @@ use Rattle.answers.specs.declared.Said.{Said}
 use Rattle.answers.specs.Answer.{numbersOf, Check, decided, refusedCall}
 use Rattle.command.specs.Hear.{scannedBy, heardBy, replyBy, Hears}
 use Rattle.answers.proofs.Checks.{Fails, Pass, ByNumber, refused-by, accepted-by, either-way, call-passed, call-refused, call-unchanged}
-use Rattle.framing.specs.declared.packet.Packet.{Packet}
+use Rattle.packets.specs.declared.packet.Packet.{Packet}
 use Rattle.framing.specs.declared.scan.Scanned.{Scanned}
 use Rattle.verdict.specs.declared.verdict.Verdict.{Verdict}
 use Rattle.verdict.specs.declared.verdict.Verdict.the-variants as verdicts

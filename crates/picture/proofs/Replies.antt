@@ -7,10 +7,10 @@ use native.Mathlib.Omega.{arith}
 use lib.ListN.{getD, length-append}
 use Rattle.lists.specs.Tests.{when_then_else_}
 use Rattle.lists.proofs.Laws.{when-true, when-false}
-use Rattle.framing.specs.declared.packet.Packet.{Packet}
+use Rattle.packets.specs.declared.packet.Packet.{Packet}
+use Rattle.packets.specs.Fcs.{checksum}
+use Rattle.packets.specs.Packet.{covered, lowFirst, packetBytes, composable, composedLength, composed}
 use Rattle.framing.specs.declared.scan.Scanned.{Scanned}
-use Rattle.framing.specs.Fcs.{checksum}
-use Rattle.framing.specs.Packet.{covered, lowFirst, packetBytes, composable, composedLength, composed}
 use Rattle.carry.specs.Carry.{contentOf}
 use Rattle.panel.specs.declared.state.Panel.{Panel}
 use Rattle.command.specs.Step.{stepOf}

@@ -4,9 +4,9 @@ use mathlib.Core.List.{map}
 use Rattle.lists.specs.Tests.{when_then_else_, all}
 use Rattle.lists.specs.First.{firstBelow}
 use Rattle.lists.specs.Runs.{pasted}
-use Rattle.framing.specs.Fcs.{afterBit, afterByte}
-use Rattle.framing.specs.Packet.{composedLength, composed}
-use Rattle.framing.specs.Judge.{checksumRight, judge}
+use Rattle.packets.specs.Fcs.{afterBit, afterByte}
+use Rattle.packets.specs.Packet.{composedLength, composed}
+use Rattle.packets.specs.Judge.{checksumRight, judge}
 use Rattle.framing.specs.Scan.{settleAt, settle, goOn, scan, scannedOf}
 use Rattle.verdict.specs.Table.{lookUp, configAllowed}
 use Rattle.verdict.specs.Verdict.{inRange, firstOut, isReboot, wholeVerdict, verdictBy}

@@ -8,7 +8,7 @@ use lib.ListN.{length, take, replicate}
 use borrow.Author.Tests.{eq-eqb}
 use Rattle.lists.specs.Tests.{when_then_else_}
 use Rattle.lists.specs.Runs.{front}
-use Rattle.framing.specs.Hold.{holdOf}
+use Rattle.packets.specs.Hold.{holdOf}
 use Rattle.panel.specs.declared.state.Body.{Body}
 use Rattle.panel.specs.declared.state.Panel.{Panel}
 use Rattle.panel.specs.Ranges.{inRanges}

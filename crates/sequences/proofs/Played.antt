@@ -8,9 +8,9 @@ use lib.ListN.{length, take, drop, length-append}
 use lib.Seq.{take-at}
 use borrow.Author.Tests.{eq-eqb}
 use Rattle.lists.specs.Tests.{when_then_else_, _≤?_}
-use Rattle.framing.specs.declared.packet.Packet.{Packet}
-use Rattle.framing.specs.Packet.{covered, lowFirst, packetBytes, composedLength, composed}
-use Rattle.framing.specs.Fcs.{checksum}
+use Rattle.packets.specs.declared.packet.Packet.{Packet}
+use Rattle.packets.specs.Packet.{covered, lowFirst, packetBytes, composedLength, composed}
+use Rattle.packets.specs.Fcs.{checksum}
 use Rattle.panel.specs.declared.state.Body.{Body}
 use Rattle.carry.specs.Carry.{contentOf}
 use Rattle.command.specs.Step.{stepOf}

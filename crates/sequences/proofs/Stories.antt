@@ -8,10 +8,10 @@ use borrow.Author.Tests.{eq-eqb, eqb-true, leb-true, le-leb}
 use lib.ListN.{length, take, drop, replicate}
 use Rattle.lists.specs.Tests.{_=?_}
 use Rattle.lists.proofs.Laws.{when-true, when-false, length-front}
-use Rattle.framing.specs.declared.hold.Hold.{Hold}
-use Rattle.framing.specs.declared.packet.Packet.{Packet}
+use Rattle.packets.specs.declared.hold.Hold.{Hold}
+use Rattle.packets.specs.declared.packet.Packet.{Packet}
+use Rattle.packets.specs.Hold.{held}
 use Rattle.framing.specs.declared.scan.Scanned.{Scanned}
-use Rattle.framing.specs.Hold.{held}
 use Rattle.framing.specs.Scan.{scan, scannedOf}
 use Rattle.framing.specs.Line as lines
 use Rattle.framing.specs.Line.{Tally, nothingMore, counted, packetsIn, Calls}

@@ -5,7 +5,7 @@ ghost use lib.ListN.{length};
 ghost use Rattle.layout.specs.State.{fiveAt, holdOf, bodyOf, panelOf};
 ghost use Rattle.unpacking.specs.State.{unread, ReadsState};
 use crate::settings::settings_of;
-use framing::hold::Hold;
+use packets::hold::Hold;
 use panel::state::Body;
 use panel::state::Keys;
 use panel::state::Panel;

@@ -9,7 +9,7 @@ use lib.ListN.{length}
 use borrow.Author.Tests.{ne-eqb}
 use Rattle.lists.specs.Tests.{when_then_else_}
 use Rattle.lists.proofs.Laws.{when-either, when-false}
-use Rattle.framing.specs.declared.packet.Packet.{Packet}
+use Rattle.packets.specs.declared.packet.Packet.{Packet}
 use Rattle.framing.specs.declared.scan.Scanned.{Scanned}
 use Rattle.verdict.specs.declared.verdict.Verdict.{Verdict}
 use Rattle.verdict.specs.declared.verdict.Verdict.the-variants as verdicts

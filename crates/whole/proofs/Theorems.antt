@@ -8,7 +8,7 @@ use lib.ListN.{length, getD}
 use Rattle.lists.specs.Promise.{Determined}
 use Rattle.panel.specs.declared.state.Panel.{Panel}
 use Rattle.register.specs.declared.filing.Record.{Record}
-use Rattle.framing.specs.Hold.{held}
+use Rattle.packets.specs.Hold.{held}
 use Rattle.framing.proofs.Theorems as framing
 use Rattle.answers.specs.declared.Said.{Said}
 use Rattle.command.specs.Hear.{scannedBy}

@@ -1,7 +1,7 @@
 use Prim.Native.Nat.{ℕ, _+_}
 use mathlib.Core.Path.{_≡_, refl, _∙_, ap}
 use mathlib.Core.List.{List, _∷_}
-use Rattle.framing.specs.Packet.{packetOf}
+use Rattle.packets.specs.Packet.{packetOf}
 use Rattle.panel.specs.declared.state.Settings.{Settings}
 use Rattle.panel.specs.Glyphs.{eightFrom}
 use Rattle.lists.proofs.Laws.{when-either}

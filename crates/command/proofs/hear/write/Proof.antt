@@ -4,7 +4,7 @@ use lib.ListN.{length, length-take}
 use borrow.Author.Needs.{length-unmapped}
 use borrow.Author.Tests.{not-true, not-false}
 use Rattle.lists.proofs.Laws.{when-true, when-false, take-limited}
-use Rattle.framing.specs.Packet.{composedLength, composed}
+use Rattle.packets.specs.Packet.{composedLength, composed}
 use Rattle.command.specs.Hear.{writtenLength, written}
 use native.Mathlib.Omega.{arith}
 use borrow.Author.Needs.{needs}
@@ -12,7 +12,7 @@ use Rattle.command.proofs.hear.write.Statement.{statement}
 use Rattle.command.proofs.hear.write.Tie as tie
 use Rattle.command.proofs.hear.write.Reads as reads
 use Rattle.command.proofs.hear.write.Lts as lts
-use Rattle.framing.proofs.packet.compose.Reads as compose-reads
+use Rattle.packets.proofs.packet.compose.Reads as compose-reads
 use Rattle.lists.proofs.at_most.Reads as at-most-reads
 
 given : (s : tie.Start) → length (s .args .reply .content) ≡ 22

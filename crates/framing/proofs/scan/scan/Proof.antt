@@ -2,7 +2,7 @@ use Prim.Native.Nat.{ℕ}
 use mathlib.Core.Path.{_∙_, ap}
 use mathlib.Core.List.{List}
 use Rattle.lists.proofs.Laws.{take-most}
-use Rattle.framing.specs.Hold.{held}
+use Rattle.packets.specs.Hold.{held}
 use Rattle.framing.specs.Scan.{scan, scannedOf}
 use lib.ListN.{length-take}
 use native.Mathlib.Omega.{arith}

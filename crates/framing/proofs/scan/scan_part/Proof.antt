@@ -4,7 +4,7 @@ use mathlib.Core.List.{List}
 use lib.ListN.{length, take, length-take}
 use borrow.Author.Needs.{length-unmapped}
 use Rattle.lists.proofs.Laws.{take-limited, take-most}
-use Rattle.framing.specs.Hold.{held}
+use Rattle.packets.specs.Hold.{held}
 use Rattle.framing.specs.Scan.{scan, scannedOf}
 use Rattle.framing.proofs.Windows.{Window, laid, none-held}
 use native.Mathlib.Omega.{arith}

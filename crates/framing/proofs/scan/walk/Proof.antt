@@ -2,10 +2,10 @@ use Prim.Native.Nat.{ℕ, _+_, _*_, _-_}
 use mathlib.Core.Path.{_≡_, sym, _∙_}
 use lib.ListN.{length}
 use Rattle.lists.specs.Tests.{when_then_else_}
-use Rattle.framing.specs.declared.judge.Judgement.the-variants.{Wait, LongLength, WrongChecksum, Packet}
-use Rattle.framing.specs.Judge.{judge}
+use Rattle.packets.specs.declared.judge.Judgement.the-variants.{Wait, LongLength, WrongChecksum, Packet}
+use Rattle.packets.specs.Judge.{judge}
 use Rattle.framing.specs.Walk.{between, Stands}
-use Rattle.framing.proofs.Judgements.{waits-for}
+use Rattle.framing.proofs.Waits.{waits-for}
 use Rattle.framing.proofs.Turns.{first-turn, longs, wrongs, farther, took, dropped-long, dropped-wrong}
 use native.Mathlib.Omega.{arith}
 use borrow.Author.Needs.{needs}
@@ -13,7 +13,7 @@ use Rattle.framing.proofs.scan.walk.Statement.{statement}
 use Rattle.framing.proofs.scan.walk.Tie as tie
 use Rattle.framing.proofs.scan.walk.Reads as reads
 use Rattle.framing.proofs.scan.walk.Lts as lts
-use Rattle.framing.proofs.judge.judge.Reads as judge-reads
+use Rattle.packets.proofs.judge.judge.Reads as judge-reads
 use Rattle.framing.proofs.scan.wanted.Reads as wanted-reads
 use Rattle.lists.proofs.at_most.Reads as at-most-reads
 use Rattle.lists.proofs.wide.Reads as wide-reads

@@ -1,5 +1,5 @@
 use mathlib.Core.Path.{sym}
-use Rattle.framing.proofs.Judgements.{needed-short, needed-part}
+use Rattle.framing.proofs.Waits.{needed-short, needed-part}
 use native.Mathlib.Omega.{arith}
 use borrow.Author.Needs.{needs}
 use Rattle.framing.proofs.scan.wanted.Statement.{statement}

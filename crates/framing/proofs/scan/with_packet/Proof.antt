@@ -1,4 +1,4 @@
-use Rattle.framing.proofs.Bytes.{scanned-packet}
+use Rattle.framing.proofs.Endings.{scanned-packet}
 use native.Mathlib.Omega.{arith}
 use borrow.Author.Needs.{needs}
 use Rattle.framing.proofs.scan.with_packet.Statement.{statement}

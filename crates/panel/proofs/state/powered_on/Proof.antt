@@ -5,7 +5,7 @@ use Rattle.panel.proofs.state.powered_on.Statement.{statement}
 use Rattle.panel.proofs.state.powered_on.Tie as tie
 use Rattle.panel.proofs.state.powered_on.Reads as reads
 use Rattle.panel.proofs.state.powered_on.Lts as lts
-use Rattle.framing.proofs.hold.empty.Reads as empty-reads
+use Rattle.packets.proofs.hold.empty.Reads as empty-reads
 use Rattle.panel.proofs.state.factory.Reads as factory-reads
 
 factory-requires : tie.Need-factory-requires

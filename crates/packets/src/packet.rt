@@ -1,6 +1,6 @@
 // A packet as values, and composed into bytes.
 ghost use mathlib.Core.Path.{_≡_};
-ghost use Rattle.framing.specs.Packet.{Composes};
+ghost use Rattle.packets.specs.Packet.{Composes};
 
 // Type, length and data; zeros behind the data.
 pub struct Packet {

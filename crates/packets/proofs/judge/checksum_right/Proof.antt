@@ -1,12 +1,12 @@
 use lib.ListN.{length-take}
-use Rattle.framing.specs.Judge.{checksumRight}
+use Rattle.packets.specs.Judge.{checksumRight}
 use native.Mathlib.Omega.{arith}
 use borrow.Author.Needs.{needs}
-use Rattle.framing.proofs.judge.checksum_right.Statement.{statement}
-use Rattle.framing.proofs.judge.checksum_right.Tie as tie
-use Rattle.framing.proofs.judge.checksum_right.Reads as reads
-use Rattle.framing.proofs.judge.checksum_right.Lts as lts
-use Rattle.framing.proofs.fcs.checksum.Reads as checksum-reads
+use Rattle.packets.proofs.judge.checksum_right.Statement.{statement}
+use Rattle.packets.proofs.judge.checksum_right.Tie as tie
+use Rattle.packets.proofs.judge.checksum_right.Reads as reads
+use Rattle.packets.proofs.judge.checksum_right.Lts as lts
+use Rattle.packets.proofs.fcs.checksum.Reads as checksum-reads
 use Rattle.lists.proofs.wide.Reads as wide-reads
 
 shared-slice-read-wide : tie.Need-shared-slice-read-wide

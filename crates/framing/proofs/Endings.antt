@@ -1,27 +1,20 @@
--- Held bytes and packets as the code has them: arrays with a count.
+-- What the code makes of the end of a call: held bytes and a packet in arrays, and the counts.
 use mathlib.Core.Path.{_≡_, _∙_}
 use mathlib.Core.Bool.{true, false}
 use mathlib.Core.List.{List}
 use Prim.Native.Nat.{ℕ, _+_, _-_, _≤_}
 use native.Mathlib.Nat.{add-zero}
 use native.Mathlib.Omega.{arith}
-use lib.ListN.{length, take, drop, getD, replicate, length-replicate, length-drop}
-use lib.Seq.{length-take-le, take-append-seam}
+use lib.ListN.{length, take, drop, getD, replicate, length-drop}
+use lib.Seq.{length-take-le}
 use Rattle.lists.specs.Runs.{pasted}
-use Rattle.lists.proofs.Laws.{pasted-front, all-behind}
-use Rattle.framing.specs.declared.hold.Hold.{Hold}
-use Rattle.framing.specs.Packet.{padded}
-use Rattle.framing.specs.Hold.{held, holdOf}
-use Rattle.framing.specs.Judge.{lengthByte}
+use Rattle.lists.proofs.Laws.{all-behind}
+use Rattle.packets.specs.declared.hold.Hold.{Hold}
+use Rattle.packets.specs.Packet.{padded}
+use Rattle.packets.specs.Hold.{holdOf}
+use Rattle.packets.specs.Judge.{lengthByte}
+use Rattle.packets.proofs.Bytes.{padding}
 use Rattle.framing.specs.Scan.{still, after, found, scannedOf}
-
--- what is held again is what was kept
-pub held-holdOf : (h : List ℕ) → held (holdOf h) ≡ h
-held-holdOf h = take-append-seam h (drop (length h) (replicate 25 0))
-
--- a run laid at the front of n zeros
-pub padding : (n : ℕ) (run : List ℕ) → length run ≤ n → pasted (replicate n 0) 0 run ≡ padded n run
-padding n run h = pasted-front run (replicate n 0) (omega (arith, length-replicate {A = ℕ} n 0))
 
 -- what the code makes of a call that ends waiting
 pub scanned-waiting : (w : List ℕ) (t d k : ℕ) (g : Hold) → g ≡ holdOf w

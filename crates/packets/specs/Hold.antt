@@ -3,8 +3,8 @@ use Prim.Native.Nat.{ℕ}
 use mathlib.Core.Path.{_≡_}
 use mathlib.Core.List.{List, []}
 use lib.ListN.{length, take}
-use Rattle.framing.specs.declared.hold.Hold.{Hold}
-use Rattle.framing.specs.Packet.{padded}
+use Rattle.packets.specs.declared.hold.Hold.{Hold}
+use Rattle.packets.specs.Packet.{padded}
 
 abbrev pub held : Hold → List ℕ
 held hold = take (hold .count) (hold .bytes)

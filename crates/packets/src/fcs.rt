@@ -1,6 +1,6 @@
 // The checksum: the 16-bit FCS of RFC 1662, one bit at a time.
 ghost use mathlib.Core.Path.{_≡_};
-ghost use Rattle.framing.specs.Fcs.{afterBit, afterByte, afterBytes, Sums};
+ghost use Rattle.packets.specs.Fcs.{afterBit, afterByte, afterBytes, Sums};
 
 fn bit(c: u16) -> u16
     ensures { λ r. ⌜ r ≡ afterBit c ⌝ }

@@ -1,11 +1,11 @@
 use mathlib.Core.Path.{sym}
 use borrow.Author.Tests.{eq-eqb, ne-eqb}
 use Rattle.lists.proofs.Laws.{when-true, when-false}
-use Rattle.framing.specs.Fcs.{afterBit}
-use Rattle.framing.proofs.fcs.bit.Statement.{statement}
-use Rattle.framing.proofs.fcs.bit.Tie as tie
-use Rattle.framing.proofs.fcs.bit.Reads as reads
-use Rattle.framing.proofs.fcs.bit.Lts as lts
+use Rattle.packets.specs.Fcs.{afterBit}
+use Rattle.packets.proofs.fcs.bit.Statement.{statement}
+use Rattle.packets.proofs.fcs.bit.Tie as tie
+use Rattle.packets.proofs.fcs.bit.Reads as reads
+use Rattle.packets.proofs.fcs.bit.Lts as lts
 
 returns : tie.Need-returns
 unfolding afterBit

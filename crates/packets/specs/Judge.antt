@@ -5,9 +5,9 @@ use mathlib.Core.Bool.{Bool}
 use mathlib.Core.List.{List}
 use lib.ListN.{length, getD, take}
 use Rattle.lists.specs.Tests.{when_then_else_, _<?_, _=?_}
-use Rattle.framing.specs.declared.judge.Judgement.{Judgement}
-use Rattle.framing.specs.declared.judge.Judgement.the-variants.{Wait, LongLength, WrongChecksum, Packet}
-use Rattle.framing.specs.Fcs.{checksum}
+use Rattle.packets.specs.declared.judge.Judgement.{Judgement}
+use Rattle.packets.specs.declared.judge.Judgement.the-variants.{Wait, LongLength, WrongChecksum, Packet}
+use Rattle.packets.specs.Fcs.{checksum}
 
 -- the n of "type, length n"
 abbrev pub lengthByte : List ℕ → ℕ

@@ -2,7 +2,7 @@
 ghost use mathlib.Core.Path.{_≡_};
 ghost use Prim.Native.Nat.{_+_, _<_, _≤_};
 ghost use lib.ListN.{length};
-ghost use Rattle.framing.specs.Judge.{lengthByte, checksumRight, Judges};
+ghost use Rattle.packets.specs.Judge.{lengthByte, checksumRight, Judges};
 
 // What becomes of the oldest byte: more must come first, it goes because the length is above 22 or because the
 // checksum is wrong, or a packet begins with it.

@@ -4,14 +4,14 @@ use mathlib.Core.List.{List}
 use native.Mathlib.Numerals.{add-one}
 use lib.ListN.{length, drop, getD, drop-of-length-le}
 use lib.Seq.{drop-cons}
-use Rattle.framing.specs.Fcs.{afterByte, afterBytes}
+use Rattle.packets.specs.Fcs.{afterByte, afterBytes}
 use native.Mathlib.Omega.{arith}
 use borrow.Author.Needs.{needs}
-use Rattle.framing.proofs.fcs.run.Statement.{statement}
-use Rattle.framing.proofs.fcs.run.Tie as tie
-use Rattle.framing.proofs.fcs.run.Reads as reads
-use Rattle.framing.proofs.fcs.run.Lts as lts
-use Rattle.framing.proofs.fcs.byte.Reads as byte-reads
+use Rattle.packets.proofs.fcs.run.Statement.{statement}
+use Rattle.packets.proofs.fcs.run.Tie as tie
+use Rattle.packets.proofs.fcs.run.Reads as reads
+use Rattle.packets.proofs.fcs.run.Lts as lts
+use Rattle.packets.proofs.fcs.byte.Reads as byte-reads
 
 turn : (bytes : List ℕ) (c i : ℕ) → i < length bytes → afterBytes (afterByte c (getD bytes i 0)) (drop (i + 1) bytes) ≡ afterBytes c (drop i bytes)
 turn bytes c i h = rw (add-one, drop-cons bytes i 0)

@@ -1,14 +1,14 @@
 use Prim.Native.Nat.{ℕ, _≤_, _-_}
 use mathlib.Core.Path.{_≡_, refl, _∙_, ap}
 use native.Mathlib.Numerals.{add-one}
-use Rattle.framing.specs.Fcs.{afterBit, afterBits, afterByte}
+use Rattle.packets.specs.Fcs.{afterBit, afterBits, afterByte}
 use native.Mathlib.Omega.{arith}
 use borrow.Author.Needs.{needs}
-use Rattle.framing.proofs.fcs.byte.Statement.{statement}
-use Rattle.framing.proofs.fcs.byte.Tie as tie
-use Rattle.framing.proofs.fcs.byte.Reads as reads
-use Rattle.framing.proofs.fcs.byte.Lts as lts
-use Rattle.framing.proofs.fcs.bit.Reads as bit-reads
+use Rattle.packets.proofs.fcs.byte.Statement.{statement}
+use Rattle.packets.proofs.fcs.byte.Tie as tie
+use Rattle.packets.proofs.fcs.byte.Reads as reads
+use Rattle.packets.proofs.fcs.byte.Lts as lts
+use Rattle.packets.proofs.fcs.bit.Reads as bit-reads
 
 abbrev Inv-loop : tie.InvT-loop
 Inv-loop c b r₀ i₀ r i = (i ≤ 8) × (r ≡ afterBits i r₀)

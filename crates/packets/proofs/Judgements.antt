@@ -10,12 +10,9 @@ use borrow.Author.Tests.{lt-ltb, le-ltb}
 use lib.ListN.{length, getD, take, drop, length-append, length-drop, List·getD-append}
 use lib.Seq.{take-append-le, drop-append-le}
 use Rattle.lists.specs.Tests.{when_then_else_}
-use Rattle.lists.proofs.Laws.{when-true, when-false}
-use Rattle.framing.specs.declared.judge.Judgement.{Judgement}
-use Rattle.framing.specs.declared.judge.Judgement.the-variants.{Wait, LongLength, WrongChecksum, Packet}
-use Rattle.framing.specs.Judge.{lengthByte, checksumRight, judge}
-use Rattle.framing.specs.Scan.{packet, found}
-use Rattle.framing.specs.Walk.{needed}
+use Rattle.packets.specs.declared.judge.Judgement.{Judgement}
+use Rattle.packets.specs.declared.judge.Judgement.the-variants.{Wait, LongLength, WrongChecksum, Packet}
+use Rattle.packets.specs.Judge.{lengthByte, checksumRight, judge}
 
 -- what is known of the held bytes h under each judgement: one way to each of the paper's sentences
 pub data Seen (h : List ℕ) : Judgement → Type 0 where
@@ -47,39 +44,14 @@ module _ (h : List ℕ) where
       go true e a b = at (whole a b e)
       go false e a b = at (wrong a b e)
 
--- how many bytes are needed where the judgement waits
-pub needed-short : (h : List ℕ) → length h < 2 → needed h ≡ 2
-unfolding needed
-needed-short h a = when-true _ _ _ (lt-ltb (length h) 2 a)
-
-pub needed-part : (h : List ℕ) → 2 ≤ length h → needed h ≡ lengthByte h + 4
-unfolding needed
-needed-part h a = when-false _ _ _ (le-ltb (length h) 2 a)
-
-pub waits-for : (h : List ℕ) → judge h ≡ Wait → (length h < needed h) × (needed h ≤ 26)
-waits-for h e = go (see h Wait e)
-  where
-    go : Seen h Wait → (length h < needed h) × (needed h ≤ 26)
-    go (short a) = (omega (arith, needed-short h a), omega (arith, needed-short h a))
-    go (part a b c) = (omega (arith, needed-part h a), omega (arith, needed-part h a))
-
--- bytes behind change nothing of a judgement that is no wait, nor of a wait before as many as are needed
+-- bytes behind change nothing of a judgement that is no wait
 module _ (h s : List ℕ) where
-  length-more : 2 ≤ length h → lengthByte (h ++ s) ≡ lengthByte h
+  pub length-more : 2 ≤ length h → lengthByte (h ++ s) ≡ lengthByte h
   length-more a = List·getD-append h s 0 1 (omega arith)
 
   right-more : lengthByte h + 4 ≤ length h → checksumRight (h ++ s) ≡ checksumRight h
   unfolding checksumRight
   right-more a = rw (length-more (omega arith), take-append-le (lengthByte h + 2) h s (omega arith), List·getD-append h s 0 (lengthByte h + 2) (omega arith), List·getD-append h s 0 (lengthByte h + 3) (omega arith))
-
-  pub more-wait : judge h ≡ Wait → length h + length s < needed h → judge (h ++ s) ≡ Wait
-  more-wait e n = go (see h Wait e)
-    where
-      go : Seen h Wait → judge (h ++ s) ≡ Wait
-      go (short a) = shown (h ++ s) (short (omega (arith, length-append h s, needed-short h a)))
-      go (part a b c) =
-          let m = length-more a in
-          shown (h ++ s) (part (omega (arith, length-append h s)) (rw m b) (rw m (omega (arith, length-append h s, needed-part h a))))
 
   pub more-long : judge h ≡ LongLength → judge (h ++ s) ≡ LongLength
   more-long e = go (see h LongLength e)
@@ -98,7 +70,8 @@ module _ (h s : List ℕ) where
   pub record Same : Type 0 where
     pub judged : judge (h ++ s) ≡ Packet
     pub sized : lengthByte (h ++ s) ≡ lengthByte h
-    pub ending : packet (getD (h ++ s) 0 0) (take (lengthByte h) (drop 2 (h ++ s))) ≡ found h .ending
+    pub kind : getD (h ++ s) 0 0 ≡ getD h 0 0
+    pub content : take (lengthByte h) (drop 2 (h ++ s)) ≡ take (lengthByte h) (drop 2 h)
     pub behind : drop (lengthByte h + 4) (h ++ s) ≡ drop (lengthByte h + 4) h ++ s
 
   pub more-packet : judge h ≡ Packet → Same
@@ -110,6 +83,7 @@ module _ (h s : List ℕ) where
           record {
             judged = shown (h ++ s) (whole (rw m a) (rw m (omega (arith, length-append h s))) (right-more b ∙ f));
             sized = m;
-            ending = rw (List·getD-append h s 0 0 (omega arith), drop-append-le 2 h s (omega arith), take-append-le (lengthByte h) (drop 2 h) s (omega (arith, length-drop 2 h)));
+            kind = List·getD-append h s 0 0 (omega arith);
+            content = rw (drop-append-le 2 h s (omega arith)) (take-append-le (lengthByte h) (drop 2 h) s (omega (arith, length-drop 2 h)));
             behind = drop-append-le (lengthByte h + 4) h s b;
           }

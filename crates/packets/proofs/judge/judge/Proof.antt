@@ -1,12 +1,12 @@
 use mathlib.Core.Path.{sym}
-use Rattle.framing.proofs.Judgements.{shown, short, part, long, wrong, whole}
+use Rattle.packets.proofs.Judgements.{shown, short, part, long, wrong, whole}
 use native.Mathlib.Omega.{arith}
 use borrow.Author.Needs.{needs}
-use Rattle.framing.proofs.judge.judge.Statement.{statement}
-use Rattle.framing.proofs.judge.judge.Tie as tie
-use Rattle.framing.proofs.judge.judge.Reads as reads
-use Rattle.framing.proofs.judge.judge.Lts as lts
-use Rattle.framing.proofs.judge.checksum_right.Reads as checksum-right-reads
+use Rattle.packets.proofs.judge.judge.Statement.{statement}
+use Rattle.packets.proofs.judge.judge.Tie as tie
+use Rattle.packets.proofs.judge.judge.Reads as reads
+use Rattle.packets.proofs.judge.judge.Lts as lts
+use Rattle.packets.proofs.judge.checksum_right.Reads as checksum-right-reads
 use Rattle.lists.proofs.wide.Reads as wide-reads
 
 returns : tie.Need-returns

@@ -1,21 +1,19 @@
--- Writing a packet into the front of a buffer, and finding it again.
+-- Writing a packet into the front of a buffer, and its judgement.
 use mathlib.Core.Path.{_≡_, refl, sym, _∙_, ap}
 use mathlib.Core.Bool.{true, false, and-false}
 use mathlib.Core.List.{List, [], _∷_, _++_, append-assoc}
 use Prim.Native.Nat.{ℕ, _+_, _*_, _/_, _%_, _<_, _≤_}
 use native.Mathlib.Omega.{arith}
 use borrow.Author.Tests.{eq-eqb, ne-eqb, le-leb, lt-leb}
-use lib.ListN.{length, take, drop, set, getD, length-append, drop-of-length-le}
-use lib.Seq.{take-at, take-append-seam, getD-at, getD-append-add}
+use lib.ListN.{length, take, drop, set, getD, length-append}
+use lib.Seq.{take-at, getD-at, getD-append-add}
 use Rattle.lists.specs.Runs.{front, pasted}
 use Rattle.lists.proofs.Laws.{when-true, when-false, front-more, front-run}
-use Rattle.framing.specs.Fcs.{checksum}
-use Rattle.framing.specs.declared.judge.Judgement.the-variants.{Packet}
-use Rattle.framing.specs.Packet.{covered, lowFirst, packetBytes, packetOf, composable, composedLength, composed, Composes}
-use Rattle.framing.specs.Judge.{checksumRight, judge}
-use Rattle.framing.specs.Line.{onto, line}
-use Rattle.framing.proofs.Judgements.{shown, whole}
-use Rattle.framing.proofs.Lines.{line-packet}
+use Rattle.packets.specs.Fcs.{checksum}
+use Rattle.packets.specs.declared.judge.Judgement.the-variants.{Packet}
+use Rattle.packets.specs.Packet.{covered, lowFirst, packetBytes, composable, composedLength, composed, Composes}
+use Rattle.packets.specs.Judge.{checksumRight, judge}
+use Rattle.packets.proofs.Judgements.{shown, whole}
 
 module _ (out content : List ℕ) where
   pub wrong-buffer : (length out ≡ 26 → ⊥) → composable out content ≡ false
@@ -54,7 +52,7 @@ module _ (out content : List ℕ) where
     unfolding composedLength composed
     composes out′ h l e = let t = fitting h l in (sym (when-true _ _ _ t), e ∙ sym (when-true _ _ _ t))
 
--- the bytes of a packet are judged a packet, whatever stands behind them
+-- the bytes of a packet are judged a packet
 module _ (kind : ℕ) (content : List ℕ) (l : length content ≤ 22) where
   abbrev sum : ℕ
   sum = checksum (covered kind content)
@@ -79,9 +77,3 @@ module _ (kind : ℕ) (content : List ℕ) (l : length content ≤ 22) where
 
   pub composed-judged : judge (packetBytes kind content) ≡ Packet
   composed-judged = shown (packetBytes kind content) (whole l room right)
-
-  pub composed-line : (s : List ℕ) → line (packetBytes kind content ++ s) ≡ onto (packetOf kind content ∷ []) 0 (length content + 2) (line s)
-  composed-line s =
-      let c : take (length content) (content ++ lowFirst sum) ≡ content = take-append-seam content (lowFirst sum) in
-      let d : drop (length content + 4) (packetBytes kind content) ≡ [] = drop-of-length-le (packetBytes kind content) {i = length content + 4} (omega (arith, length-append (covered kind content) (lowFirst sum))) in
-      line-packet (packetBytes kind content) s composed-judged (omega (arith, room)) ∙ rw (c, d)

@@ -1,12 +1,12 @@
 use lib.ListN.{length-set, length-take}
-use Rattle.framing.proofs.Composing.{wrong-buffer, too-long, composes-nothing, composes, written}
+use Rattle.packets.proofs.Composing.{wrong-buffer, too-long, composes-nothing, composes, written}
 use native.Mathlib.Omega.{arith}
 use borrow.Author.Needs.{needs}
-use Rattle.framing.proofs.packet.compose.Statement.{statement}
-use Rattle.framing.proofs.packet.compose.Tie as tie
-use Rattle.framing.proofs.packet.compose.Reads as reads
-use Rattle.framing.proofs.packet.compose.Lts as lts
-use Rattle.framing.proofs.fcs.checksum.Reads as checksum-reads
+use Rattle.packets.proofs.packet.compose.Statement.{statement}
+use Rattle.packets.proofs.packet.compose.Tie as tie
+use Rattle.packets.proofs.packet.compose.Reads as reads
+use Rattle.packets.proofs.packet.compose.Lts as lts
+use Rattle.packets.proofs.fcs.checksum.Reads as checksum-reads
 use Rattle.lists.proofs.paste.Reads as paste-reads
 
 returns : tie.Need-returns

@@ -6,8 +6,8 @@ use mathlib.Core.List.{List, [], _∷_, _++_}
 use lib.ListN.{length, replicate}
 use Rattle.lists.specs.Tests.{when_then_else_, _=?_, _≤?_}
 use Rattle.lists.specs.Runs.{front}
-use Rattle.framing.specs.declared.packet.Packet.{Packet}
-use Rattle.framing.specs.Fcs.{checksum}
+use Rattle.packets.specs.declared.packet.Packet.{Packet}
+use Rattle.packets.specs.Fcs.{checksum}
 
 -- what the checksum is over: "type, length and data"
 abbrev pub covered : ℕ → List ℕ → List ℕ

@@ -1,0 +1,4 @@
+pub mod Bytes
+pub mod Composing
+pub mod Judgements
+pub mod Theorems

@@ -1,0 +1,4 @@
+pub mod Fcs
+pub mod Packet
+pub mod Hold
+pub mod Judge

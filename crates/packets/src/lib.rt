@@ -1,0 +1,6 @@
+// Packets: the checksum, the held bytes, the judgement at the oldest of them, and composing a packet. Nothing here knows of
+// any command.
+pub mod fcs;
+pub mod hold;
+pub mod judge;
+pub mod packet;
