@@ -1,4 +1,5 @@
 -- A walk over bytes that lie together: the held ones stand from one place up to another, and those behind are to come.
+-- These are the promises of private functions of the scan, which a reader of the paper need not open.
 use Prim.Native.Nat.{ℕ, _+_, _-_, _*_, _≤_}
 use mathlib.Core.Path.{_≡_}
 use mathlib.Core.Bool.{false}
@@ -18,7 +19,7 @@ between s e bytes = take (e - s) (drop s bytes)
 abbrev pub from : ℕ → ℕ → List ℕ → Outcome
 from s e bytes = scan (between s e bytes) (drop e bytes)
 
--- as many bytes as must be held before the judgement is no wait
+-- as many bytes as must be held before the judgement can be other than a wait
 unfoldable pub needed : List ℕ → ℕ
 needed h = when length h <? 2 then 2 else lengthByte h + 4
 

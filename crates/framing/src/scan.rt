@@ -88,7 +88,7 @@ fn waiting(window: &[u8], taken: usize, dropped: usize, checked: usize) -> Scann
     }
 }
 
-// As many bytes as must be held before the judgement is no wait.
+// As many bytes as must be held before the judgement can be other than a wait.
 fn wanted(held: &[u8]) -> usize
     ensures { λ r. ⌜ r ≡ needed (now (held .entry)) ⌝ }
 {
