@@ -13,7 +13,7 @@ use Rattle.panel.specs.declared.state.Keys.{Keys}
 use Rattle.panel.specs.declared.state.Pins.{Pins}
 use Rattle.panel.specs.declared.state.Body.{Body}
 use Rattle.carry.specs.declared.carry.Carried.{Carried}
-use Rattle.panel.specs.Glyphs.{eightFrom, nestedOf, flatOf}
+use Rattle.glyphs.specs.Glyphs.{eightFrom, nestedOf, flatOf}
 
 -- a body with another part
 abbrev pub withLive : Body → Settings → Body

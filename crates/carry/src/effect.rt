@@ -65,9 +65,9 @@ fn set_glyph(s: Settings, content: &[u8]) -> Settings
     ensures { λ r. ⌜ r ≡ withGlyph s (now (content .entry)) ⌝ }
 {
     let flat = s.glyphs;
-    let rows = panel::glyphs::eight(content, 1);
-    let glyphs = panel::glyphs::set(panel::glyphs::nested(flat), lists::at(content, 0), rows);
-    let set = panel::glyphs::flattened(glyphs);
+    let rows = glyphs::eight(content, 1);
+    let glyphs = glyphs::set(glyphs::nested(flat), lists::at(content, 0), rows);
+    let set = glyphs::flattened(glyphs);
     let mut r = s;
     r.glyphs = set;
     r

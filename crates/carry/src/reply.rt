@@ -5,7 +5,7 @@ ghost use mathlib.Core.List.{_∷_, []};
 ghost use Prim.Native.Nat.{_+_, _-_, _≤_};
 ghost use lib.ListN.{length, getD};
 ghost use Rattle.packets.specs.Packet.{packetOf};
-ghost use Rattle.panel.specs.Glyphs.{eightFrom};
+ghost use Rattle.glyphs.specs.Glyphs.{eightFrom};
 ghost use Rattle.carry.specs.Carry.{version, memory, bit, edges, pinReply, replyData};
 use packets::packet::Packet;
 use panel::state::Body;
@@ -44,11 +44,11 @@ fn read_memory(s: Settings, address: u8) -> [u8; 8]
     let a = address as u16;
     if a < 128 {
         let glyphs = s.glyphs;
-        return panel::glyphs::eight(&glyphs, less(a, 64));
+        return glyphs::eight(&glyphs, less(a, 64));
     }
     let text = s.text;
     let place = less(a, 128);
-    panel::glyphs::eight(&text, 20 * (place / 32) + place % 32)
+    glyphs::eight(&text, 20 * (place / 32) + place % 32)
 }
 
 fn is_marked(edges: [bool; 5], pin: usize) -> bool

@@ -135,7 +135,7 @@ pub fn state(p: Panel) {
 pub fn cell(picture: &[u8], number: u8) {
     crate::text::small(b"cell ", number);
     crate::text::word(b":");
-    let rows = panel::glyphs::eight(picture, 8 * number as u16);
+    let rows = glyphs::eight(picture, 8 * number as u16);
     crate::text::first_hex(&rows, 8);
     crate::text::word(b"\n");
 }

@@ -15,9 +15,9 @@ use Rattle.verdict.specs.Verdict.{inRange, verdictOf}
 use Rattle.panel.specs.declared.state.Settings.{Settings}
 use Rattle.panel.specs.declared.state.Keys.{Keys}
 use Rattle.panel.specs.declared.state.Body.{Body}
-use Rattle.panel.specs.Glyphs.{eightFrom}
+use Rattle.glyphs.specs.Glyphs.{eightFrom}
 use Rattle.panel.specs.Ranges.{configsInRange, numbersInRange, settingsInRange, keysInRange}
-use Rattle.panel.proofs.Every.{Every, Passes, glyph-set-passes, all-set}
+use Rattle.glyphs.proofs.Every.{Every, Passes, glyph-set-passes, all-set}
 use Rattle.carry.specs.Carry.{withLive, withTextAndCursor, withNumbers, withGlyphs, withLevels, withGlyph, withCursor, withStyle, withContrast, withBacklight, withMasks, withText, withPin, polled, effect}
 use Rattle.command.proofs.Allowed.{Sound, allowed}
 use Rattle.events.proofs.InRange.{SettingsParts, settings-parts, settings-whole, NumbersParts, numbers-parts, numbers-whole, keys-parts, keys-whole}

@@ -13,8 +13,8 @@ use Rattle.lists.specs.Tests.{_=?_, _≤?_}
 use Rattle.lists.proofs.Laws.{when-true}
 use Rattle.panel.specs.declared.state.Settings.{Settings}
 use Rattle.panel.specs.declared.state.Panel.{Panel}
-use Rattle.panel.proofs.Flat.{all-elements}
-use Rattle.panel.proofs.Every.{Every, every-all, every-append}
+use Rattle.glyphs.proofs.Flat.{all-elements}
+use Rattle.glyphs.proofs.Every.{Every, every-all, every-append}
 use Rattle.register.specs.declared.filing.Record.{Record}
 use Rattle.register.specs.Filing.{blank}
 use Rattle.layout.specs.Words.{wordOf, wordBytes}

@@ -11,8 +11,8 @@ use lib.ListN.{length, take, drop, getD, List·getD-append}
 use lib.Seq.{take-add, drop-drop, drop-cons, take-all, getD-take, getD-drop, getD-at}
 use Rattle.lists.specs.Tests.{_=?_, _≤?_}
 use Rattle.lists.proofs.Laws.{when-true}
-use Rattle.panel.proofs.Flat.{elements}
-use Rattle.panel.proofs.Every.{all-every, every-at}
+use Rattle.glyphs.proofs.Flat.{elements}
+use Rattle.glyphs.proofs.Every.{all-every, every-at}
 use Rattle.register.specs.Filing.{blank}
 use Rattle.packets.specs.declared.hold.Hold.{Hold}
 use Rattle.layout.specs.Words.{wordOf, wordBytes}

@@ -11,7 +11,7 @@ use lib.ListN.{length, getD, take}
 use lib.Seq.{take-suc, take-length}
 use Rattle.lists.specs.Tests.{_=?_, _≤?_}
 use Rattle.lists.proofs.Laws.{when-true, when-false}
-use Rattle.panel.specs.Glyphs.{eightFrom}
+use Rattle.glyphs.specs.Glyphs.{eightFrom}
 use Rattle.picture.specs.Draw.{sourceOf, drawnFrom, lowSix, codeDrawn}
 use Rattle.picture.specs.Repaint.{alike}
 use Rattle.picture.proofs.Changes.{both, alike-self}

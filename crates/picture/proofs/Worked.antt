@@ -10,7 +10,7 @@ use Rattle.packets.specs.Judge.{checksumRight, judge}
 use Rattle.framing.specs.Scan.{settleAt, settle, goOn, scan, scannedOf}
 use Rattle.verdict.specs.Table.{lookUp, configAllowed}
 use Rattle.verdict.specs.Verdict.{inRange, firstOut, isReboot, wholeVerdict, verdictBy}
-use Rattle.panel.specs.Glyphs.{nestedOf, flatFirst, flatOf}
+use Rattle.glyphs.specs.Glyphs.{nestedOf, flatFirst, flatOf}
 use Rattle.panel.specs.State.{factorySettings, poweredOn}
 use Rattle.panel.specs.Ranges.{numbersInRange, settingsInRange, keysInRange, inRanges}
 use Rattle.carry.specs.Carry.{effect, memory, edges, replyData, carried}

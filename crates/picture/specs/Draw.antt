@@ -5,7 +5,7 @@ use mathlib.Core.List.{List, [], _∷_}
 use lib.ListN.{getD, set, replicate}
 use Rattle.lists.specs.Tests.{when_then_else_, _<?_}
 use Rattle.panel.specs.declared.state.Settings.{Settings}
-use Rattle.panel.specs.Glyphs.{eightFrom, nestedOf}
+use Rattle.glyphs.specs.Glyphs.{eightFrom, nestedOf}
 
 -- what is shown: the 80 codes, and the eight special glyphs
 pub record Shown : Type 0 where

@@ -2,7 +2,6 @@
 ghost use mathlib.Core.Path.{_≡_};
 ghost use Prim.Native.Nat.{_<_};
 ghost use lib.ListN.{length};
-ghost use Rattle.panel.specs.Glyphs.{eightFrom};
 ghost use Rattle.picture.specs.Draw.{placeOf, lowSix, codeDrawn, put};
 
 // Where byte k of a cell stands.
@@ -11,21 +10,6 @@ fn place(cell: usize, k: usize) -> usize
     ensures { λ r. ⌜ (r ≡ placeOf cell k) × (r < 640) ⌝ }
 {
     8 * cell + k
-}
-
-fn rows_of(glyph: [u8; 8]) -> [u8; 8]
-    ensures { λ r. ⌜ r ≡ eightFrom glyph 0 ⌝ }
-{
-    [
-        glyph[0],
-        glyph[1],
-        glyph[2],
-        glyph[3],
-        glyph[4],
-        glyph[5],
-        glyph[6],
-        glyph[7],
-    ]
 }
 
 fn low_six(rows: [u8; 8]) -> [u8; 8]
@@ -50,9 +34,9 @@ pub fn draw(glyphs: [[u8; 8]; 8], font: &[u8], code: u8) -> [u8; 8]
     if code < 8 {
         let i = code as usize;
         let glyph = glyphs[i];
-        return rows_of(glyph);
+        return glyphs::rows_of(glyph);
     }
-    low_six(panel::glyphs::eight(font, 8 * (code as u16)))
+    low_six(glyphs::eight(font, 8 * (code as u16)))
 }
 
 // A cell's eight bytes into the picture.

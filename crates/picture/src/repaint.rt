@@ -103,8 +103,8 @@ pub fn repaint(
             return 0;
         }
     }
-    let a = panel::glyphs::nested(old_glyphs);
-    let b = panel::glyphs::nested(new_glyphs);
+    let a = glyphs::nested(old_glyphs);
+    let b = glyphs::nested(new_glyphs);
     repaint_cells(picture, list, old, new, a, b, font)
 }
 
@@ -115,7 +115,7 @@ pub fn draw_all(picture: &mut [u8], s: Settings, font: &[u8])
 {
     let text = s.text;
     let flat = s.glyphs;
-    let glyphs = panel::glyphs::nested(flat);
+    let glyphs = glyphs::nested(flat);
     let mut cell: usize = 0;
     while cell < 80 {
         put_cell(picture, cell, draw(glyphs, font, text[cell]));

@@ -9,7 +9,7 @@ use Rattle.carry.proofs.reply.read_memory.Tie as tie
 use Rattle.carry.proofs.reply.read_memory.Reads as reads
 use Rattle.carry.proofs.reply.read_memory.Lts as lts
 use Rattle.carry.proofs.reply.less.Reads as less-reads
-use Rattle.panel.proofs.glyphs.eight.Reads as eight-reads
+use Rattle.glyphs.proofs.eight.Reads as eight-reads
 
 slice-aggregate-eight : tie.Need-slice-aggregate-eight
 slice-aggregate-eight c = search needs

@@ -3,7 +3,7 @@ use mathlib.Core.Path.{_≡_, refl, _∙_, ap}
 use mathlib.Core.List.{List, _∷_}
 use Rattle.packets.specs.Packet.{packetOf}
 use Rattle.panel.specs.declared.state.Settings.{Settings}
-use Rattle.panel.specs.Glyphs.{eightFrom}
+use Rattle.glyphs.specs.Glyphs.{eightFrom}
 use Rattle.lists.proofs.Laws.{when-either}
 use borrow.Author.Tests.{ne-eqb}
 use Rattle.lists.specs.Tests.{when_then_else_}

@@ -7,9 +7,9 @@ use Rattle.picture.proofs.draw.draw.Statement.{statement}
 use Rattle.picture.proofs.draw.draw.Tie as tie
 use Rattle.picture.proofs.draw.draw.Reads as reads
 use Rattle.picture.proofs.draw.draw.Lts as lts
-use Rattle.panel.proofs.glyphs.eight.Reads as eight-reads
+use Rattle.glyphs.proofs.eight.Reads as eight-reads
 use Rattle.picture.proofs.draw.low_six.Reads as low-six-reads
-use Rattle.picture.proofs.draw.rows_of.Reads as rows-of-reads
+use Rattle.glyphs.proofs.rows_of.Reads as rows-of-reads
 
 mul-glyph : tie.Need-mul-glyph
 mul-glyph c = search needs

@@ -11,7 +11,7 @@ use Rattle.picture.proofs.repaint.draw_all.Statement.{statement}
 use Rattle.picture.proofs.repaint.draw_all.Tie as tie
 use Rattle.picture.proofs.repaint.draw_all.Reads as reads
 use Rattle.picture.proofs.repaint.draw_all.Lts as lts
-use Rattle.panel.proofs.glyphs.nested.Reads as nested-reads
+use Rattle.glyphs.proofs.nested.Reads as nested-reads
 use Rattle.picture.proofs.draw.draw.Reads as draw-reads
 use Rattle.picture.proofs.draw.put_cell.Reads as put-cell-reads
 

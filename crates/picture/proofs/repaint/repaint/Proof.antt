@@ -7,7 +7,7 @@ use Rattle.picture.proofs.repaint.repaint.Statement.{statement}
 use Rattle.picture.proofs.repaint.repaint.Tie as tie
 use Rattle.picture.proofs.repaint.repaint.Reads as reads
 use Rattle.picture.proofs.repaint.repaint.Lts as lts
-use Rattle.panel.proofs.glyphs.nested.Reads as nested-reads
+use Rattle.glyphs.proofs.nested.Reads as nested-reads
 use Rattle.picture.proofs.repaint.repaint_cells.Reads as repaint-cells-reads
 use Rattle.picture.proofs.repaint.same_bytes.Reads as same-bytes-reads
 

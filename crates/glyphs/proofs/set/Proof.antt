@@ -2,10 +2,10 @@ use mathlib.Core.Path.{sym}
 use lib.Seq.{set-out}
 use native.Mathlib.Omega.{arith}
 use borrow.Author.Needs.{needs}
-use Rattle.panel.proofs.glyphs.set.Statement.{statement}
-use Rattle.panel.proofs.glyphs.set.Tie as tie
-use Rattle.panel.proofs.glyphs.set.Reads as reads
-use Rattle.panel.proofs.glyphs.set.Lts as lts
+use Rattle.glyphs.proofs.set.Statement.{statement}
+use Rattle.glyphs.proofs.set.Tie as tie
+use Rattle.glyphs.proofs.set.Reads as reads
+use Rattle.glyphs.proofs.set.Lts as lts
 
 mul-g : tie.Need-mul-g
 mul-g c = search needs

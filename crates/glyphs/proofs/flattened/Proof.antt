@@ -3,16 +3,16 @@ use mathlib.Core.Path.{_≡_, refl, sym, _∙_, ap}
 use lib.ListN.{length, replicate}
 use Rattle.lists.specs.Runs.{front}
 use Rattle.lists.proofs.Laws.{whole-front}
-use Rattle.panel.specs.Glyphs.{flatFirst, flatOf}
-use Rattle.panel.proofs.Flat.{flat-turn, length-flat}
+use Rattle.glyphs.specs.Glyphs.{flatFirst, flatOf}
+use Rattle.glyphs.proofs.Flat.{flat-turn, length-flat}
 use native.Mathlib.Omega.{arith}
 use borrow.Author.Needs.{needs}
-use Rattle.panel.proofs.glyphs.flattened.Statement.{statement}
-use Rattle.panel.proofs.glyphs.flattened.Tie as tie
-use Rattle.panel.proofs.glyphs.flattened.Reads as reads
-use Rattle.panel.proofs.glyphs.flattened.Lts as lts
+use Rattle.glyphs.proofs.flattened.Statement.{statement}
+use Rattle.glyphs.proofs.flattened.Tie as tie
+use Rattle.glyphs.proofs.flattened.Reads as reads
+use Rattle.glyphs.proofs.flattened.Lts as lts
 use Rattle.lists.proofs.paste.Reads as paste-reads
-use Rattle.panel.proofs.glyphs.rows_of.Reads as rows-of-reads
+use Rattle.glyphs.proofs.rows_of.Reads as rows-of-reads
 
 abbrev Inv-loop : tie.InvT-loop
 Inv-loop glyphs flat₀ g₀ flat g = (g ≤ 8) × (flat ≡ front (flatFirst g glyphs) (replicate 64 0)) × (length flat ≡ 64)

@@ -1,9 +1,9 @@
 use native.Mathlib.Omega.{arith}
 use borrow.Author.Needs.{needs}
-use Rattle.panel.proofs.glyphs.eight.Statement.{statement}
-use Rattle.panel.proofs.glyphs.eight.Tie as tie
-use Rattle.panel.proofs.glyphs.eight.Reads as reads
-use Rattle.panel.proofs.glyphs.eight.Lts as lts
+use Rattle.glyphs.proofs.eight.Statement.{statement}
+use Rattle.glyphs.proofs.eight.Tie as tie
+use Rattle.glyphs.proofs.eight.Reads as reads
+use Rattle.glyphs.proofs.eight.Lts as lts
 use Rattle.lists.proofs.at.Reads as at-reads
 
 at-requires : tie.Need-at-requires

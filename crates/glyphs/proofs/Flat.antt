@@ -8,7 +8,7 @@ use lib.ListN.{length, getD, drop, length-append, drop-of-length-le}
 use lib.Seq.{drop-cons}
 use Rattle.lists.specs.Runs.{front, pasted}
 use Rattle.lists.proofs.Laws.{front-run}
-use Rattle.panel.specs.Glyphs.{eightFrom, nestedOf, flatFirst, flatOf}
+use Rattle.glyphs.specs.Glyphs.{eightFrom, nestedOf, flatFirst, flatOf}
 
 pub length-flat : (n : ℕ) (glyphs : List (List ℕ)) → length (flatFirst n glyphs) ≡ 8 * n
 unfolding flatFirst

@@ -5,7 +5,7 @@ use mathlib.Core.Bool.{Bool, true, and-eq-true-iff}
 use mathlib.Core.List.{List, [], _∷_, _++_}
 use lib.ListN.{getD, set}
 use Rattle.lists.specs.Tests.{all}
-use Rattle.panel.specs.Glyphs.{eightFrom, nestedOf, flatFirst, flatOf}
+use Rattle.glyphs.specs.Glyphs.{eightFrom, nestedOf, flatFirst, flatOf}
 
 abbrev pub Every {ℓ} : {A : Type ℓ} → (A → Type 0) → List A → Type 0
 Every P [] = Unit

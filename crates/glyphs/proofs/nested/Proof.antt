@@ -1,11 +1,11 @@
-use Rattle.panel.specs.Glyphs.{nestedOf}
+use Rattle.glyphs.specs.Glyphs.{nestedOf}
 use native.Mathlib.Omega.{arith}
 use borrow.Author.Needs.{needs}
-use Rattle.panel.proofs.glyphs.nested.Statement.{statement}
-use Rattle.panel.proofs.glyphs.nested.Tie as tie
-use Rattle.panel.proofs.glyphs.nested.Reads as reads
-use Rattle.panel.proofs.glyphs.nested.Lts as lts
-use Rattle.panel.proofs.glyphs.eight.Reads as eight-reads
+use Rattle.glyphs.proofs.nested.Statement.{statement}
+use Rattle.glyphs.proofs.nested.Tie as tie
+use Rattle.glyphs.proofs.nested.Reads as reads
+use Rattle.glyphs.proofs.nested.Lts as lts
+use Rattle.glyphs.proofs.eight.Reads as eight-reads
 
 slice-aggregate-eight : tie.Need-slice-aggregate-eight
 slice-aggregate-eight c = search needs

@@ -1,6 +1,5 @@
 // The eight special glyphs: an array of eight-byte arrays while they are set or drawn, flat in the state.
-ghost use mathlib.Core.Path.{_≡_};
-ghost use Rattle.panel.specs.Glyphs.{eightFrom, Reads8, Nests, Flattens, Sets};
+ghost use Rattle.glyphs.specs.Glyphs.{Reads8, Nests, TakesRows, Flattens, Sets};
 
 // The eight bytes from an index on, zeros past the end.
 pub fn eight(bytes: &[u8], from: u16) -> [u8; 8]
@@ -35,8 +34,9 @@ pub fn nested(flat: [u8; 64]) -> [[u8; 8]; 8]
     ]
 }
 
-fn rows_of(glyph: [u8; 8]) -> [u8; 8]
-    ensures { λ r. ⌜ r ≡ eightFrom glyph 0 ⌝ }
+// The eight rows of a glyph, one by one.
+pub fn rows_of(glyph: [u8; 8]) -> [u8; 8]
+    ensures { λ r. ⌜ TakesRows glyph r ⌝ }
 {
     [
         glyph[0],
