@@ -23,7 +23,7 @@ use Rattle.events.specs.Keys.{keyChecks, keyAccepted, keySaid, reports}
 use Rattle.events.specs.Pins.{pinChecks, pinAccepted, pinSaid}
 use Rattle.answers.proofs.Checks.{Pass, either-way, refused-by, accepted-by}
 use Rattle.picture.specs.Calls.{Lent, lineChecks, lineSaid, heard, altered, withListed, shownBefore, shownAfter}
-use Rattle.picture.proofs.Changes.{changed-short}
+use Rattle.paint.proofs.Changes.{changed-short}
 use Rattle.layout.specs.Says.{saidBytes, bytesSaid}
 use Rattle.layout.proofs.Theorems.{said-read-back}
 use Rattle.naupelys.specs.Calls.{ReadFrom}

@@ -29,7 +29,7 @@ use Rattle.command.specs.Hear.{saidOf}
 use Rattle.answers.proofs.Checks.{Pass, either-way, refused-by, accepted-by, answers-by-number}
 use Rattle.command.proofs.Hearing.{nothing-heard}
 use Rattle.picture.specs.declared.calls.Checked.{Checked}
-use Rattle.picture.proofs.Turns.{nothing-repainted}
+use Rattle.paint.proofs.Turns.{nothing-repainted}
 use Rattle.picture.proofs.LineCalls.{by-number, turned-away, turned-away-line, let-through-line, line-accepted, carried-accepted}
 use Rattle.picture.specs.Calls.{checksOf, lineChecks, turnedAway, letThrough, ChecksLine, CarriesOn, shownBefore, Lent, Lines, lineSaid, linePicture, lineList, lineReply, PowersOn, powerChecks, powerSaid, acceptedCall}
 use Rattle.whole.specs.Whole.{withUnfiled}

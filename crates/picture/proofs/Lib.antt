@@ -1,10 +1,5 @@
-pub mod Changes
-pub mod Codes
 pub mod Fronts
 pub mod LineCalls
-pub mod Paints
-pub mod Places
 pub mod Replies
 pub mod Theorems
-pub mod Turns
 pub mod Worked

@@ -26,9 +26,9 @@ use Rattle.panel.specs.declared.state.Body.{Body}
 use Rattle.carry.specs.Carry.{contentOf}
 use Rattle.command.specs.declared.step.Stepped.{Stepped}
 use Rattle.command.specs.Step.{ruled, stepOf}
-use Rattle.picture.specs.Draw.{cellDrawn, shownBy, placeOf, drawn}
-use Rattle.picture.specs.Repaint.{painted, ListedIn, Repaints}
-use Rattle.picture.proofs.Changes.{list-is-the-change, listed-differs, no-other-byte}
+use Rattle.paint.specs.Draw.{cellDrawn, shownBy, placeOf, drawn}
+use Rattle.paint.specs.Repaint.{painted, ListedIn, Repaints}
+use Rattle.paint.proofs.Changes.{list-is-the-change, listed-differs, no-other-byte}
 use Rattle.picture.proofs.Fronts.{front-own, front-behind}
 use Rattle.picture.proofs.Replies.{heard-behind}
 use Rattle.picture.specs.declared.calls.Checked.{Checked}

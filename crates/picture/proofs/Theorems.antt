@@ -12,8 +12,8 @@ use Rattle.panel.specs.declared.state.Panel.{Panel}
 use Rattle.panel.specs.State.{poweredOn}
 use Rattle.answers.specs.declared.Said.{Said}
 use Rattle.answers.specs.Answer.{numbersOf, refusedCall}
-use Rattle.picture.specs.Draw.{cellDrawn, shownBy, placeOf}
-use Rattle.picture.specs.Repaint.{ListedIn}
+use Rattle.paint.specs.Draw.{cellDrawn, shownBy, placeOf}
+use Rattle.paint.specs.Repaint.{ListedIn}
 use Rattle.picture.specs.Calls.{PowersOn, Lent, shownBefore, ChecksLine, CarriesOn, Lines}
 use Rattle.picture.specs.Worked.{told, piecesOf, expectedOf, table}
 use Rattle.picture.proofs.LineCalls as calls

@@ -17,8 +17,8 @@ use Rattle.carry.specs.Carry.{effect, memory, edges, replyData, carried}
 use Rattle.answers.specs.Answer.{numbersOf, decided}
 use Rattle.command.specs.Step.{ruled, stepOf}
 use Rattle.command.specs.Hear.{writtenLength, written, heardBy, replyBy}
-use Rattle.picture.specs.Draw.{sourceOf, drawnFrom, codeDrawn}
-use Rattle.picture.specs.Repaint.{same, changedBelow}
+use Rattle.paint.specs.Draw.{sourceOf, drawnFrom, codeDrawn}
+use Rattle.paint.specs.Repaint.{same, changedBelow}
 use Rattle.picture.specs.Worked.{told, piecesOf, expectedOf, table}
 
 pub all-said : map (λ c. told poweredOn (piecesOf c)) table ≡ map expectedOf table

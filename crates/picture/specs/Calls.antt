@@ -16,8 +16,8 @@ use Rattle.answers.specs.declared.Said.{Said}
 use Rattle.answers.specs.Answer.{Check, check, decided, refusedCall}
 use Rattle.command.specs.Hear.{scannedBy, heardBy, replyBy}
 use Rattle.picture.specs.declared.calls.Checked.{Checked}
-use Rattle.picture.specs.Draw.{Shown, shownBy, drawn}
-use Rattle.picture.specs.Repaint.{changed, painted}
+use Rattle.paint.specs.Draw.{Shown, shownBy, drawn}
+use Rattle.paint.specs.Repaint.{changed, painted}
 
 abbrev pub sized : List ℕ → ℕ → Answer → Check
 sized buffer size answer = check (length buffer =? size) answer

@@ -1,4 +1,2 @@
-pub mod Draw
-pub mod Repaint
 pub mod Calls
 pub mod Worked

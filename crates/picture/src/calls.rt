@@ -19,7 +19,7 @@ pub fn power_on(picture: &mut [u8], font: &[u8]) -> Said
         return refused_call(p, Answer::FontSize);
     }
     let live = p.body.live;
-    crate::repaint::draw_all(picture, live, font);
+    paint::repaint::draw_all(picture, live, font);
     accepted(p)
 }
 
@@ -113,7 +113,7 @@ pub fn carried_on(
     let mut h = command::hear::hear(p, s, reply);
     let before = p.body.live;
     let after = h.panel.body.live;
-    let listed = crate::repaint::repaint(picture, list, before, after, font);
+    let listed = paint::repaint::repaint(picture, list, before, after, font);
     h.listed = listed;
     h
 }

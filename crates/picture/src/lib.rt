@@ -1,4 +1,2 @@
-// The picture: what each cell draws, and calls that change exactly what they list.
+// The calls of the whole panel, which change of the picture exactly what they list.
 pub mod calls;
-mod draw;
-mod repaint;

@@ -11,9 +11,9 @@ use Rattle.answers.specs.Answer.{Check, decided, refusedCall}
 use Rattle.events.specs.Keys.{keyChecks}
 use Rattle.events.specs.Pins.{pinChecks}
 use Rattle.answers.proofs.Checks.{either-way, refused-by, accepted-by}
-use Rattle.picture.specs.Draw.{shownBy, drawn}
+use Rattle.paint.specs.Draw.{shownBy, drawn}
 use Rattle.picture.specs.Calls.{Lent, lent, lineChecks, shownBefore, shownAfter, lineSaid}
-use Rattle.picture.proofs.Changes.{repainted}
+use Rattle.paint.proofs.Changes.{repainted}
 use Rattle.whole.specs.Whole.{LineCall}
 use Rattle.sequences.specs.Run.{Call, line, key, pin, World, Makes, Runs, done, more, Afresh}
 use Rattle.sequences.specs.Story as story

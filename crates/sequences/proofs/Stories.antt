@@ -33,7 +33,7 @@ use Rattle.command.proofs.Heard as heard
 use Rattle.command.proofs.Heard.{Steps, Heard}
 use Rattle.command.proofs.HearCalls.{hear-in-range}
 use Rattle.picture.specs.Calls.{Lent, lent, lineChecks, altered, withListed, lineSaid, linePicture, lineList, lineReply}
-use Rattle.picture.proofs.Changes.{length-painted}
+use Rattle.paint.proofs.Changes.{length-painted}
 use Rattle.whole.specs.Whole.{filesAfter, withUnfiled}
 use Rattle.whole.proofs.Outcomes.{heard-leaves, passed, said-accepted}
 use Rattle.sequences.specs.Run.{World, filesOf}

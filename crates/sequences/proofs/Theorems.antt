@@ -15,7 +15,7 @@ use Rattle.answers.specs.declared.Said.{Said}
 use Rattle.answers.specs.Answer.{numbersOf}
 use Rattle.events.specs.Keys.{keySaid, keyReply}
 use Rattle.events.specs.Pins.{pinSaid}
-use Rattle.picture.specs.Draw.{shownBy, drawn}
+use Rattle.paint.specs.Draw.{shownBy, drawn}
 use Rattle.picture.specs.Calls.{PowersOn, lent, lineSaid, linePicture, lineList, lineReply}
 use Rattle.picture.proofs.LineCalls.{power-draws}
 use Rattle.whole.specs.Whole.{filesAfter, withUnfiled}

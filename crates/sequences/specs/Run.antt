@@ -13,7 +13,7 @@ use Rattle.answers.specs.declared.Said.{Said}
 use Rattle.answers.specs.Answer.{filingOf}
 use Rattle.events.specs.Keys.{Presses}
 use Rattle.events.specs.Pins.{Moves}
-use Rattle.picture.specs.Draw.{shownBy, drawn}
+use Rattle.paint.specs.Draw.{shownBy, drawn}
 use Rattle.picture.specs.Calls.{lent}
 use Rattle.whole.specs.Whole.{LineCall}
 

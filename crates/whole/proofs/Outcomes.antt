@@ -24,10 +24,10 @@ use Rattle.answers.specs.Answer.{numbersOf, filingOf, refusedCall}
 use Rattle.command.specs.Step.{ruled, stepOf}
 use Rattle.command.specs.Hear.{scannedBy, written, heardBy, replyBy}
 use Rattle.answers.proofs.Checks.{Pass, ByNumber, refused-by, accepted-by, call-refused, call-passed}
-use Rattle.picture.specs.Draw.{shownBy}
-use Rattle.picture.specs.Repaint.{Repaints}
+use Rattle.paint.specs.Draw.{shownBy}
+use Rattle.paint.specs.Repaint.{Repaints}
 use Rattle.picture.specs.Calls.{Lent, lineChecks, heard, shownBefore, shownAfter, altered, withListed, lineSaid}
-use Rattle.picture.proofs.Turns.{nothing-repainted}
+use Rattle.paint.proofs.Turns.{nothing-repainted}
 use Rattle.whole.specs.Whole.{withUnfiled, LineCall}
 
 abbrev pub number : Answer → ℕ

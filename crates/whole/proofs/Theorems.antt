@@ -14,8 +14,8 @@ use Rattle.answers.specs.declared.Said.{Said}
 use Rattle.command.specs.Hear.{scannedBy}
 use Rattle.answers.proofs.Checks.{either-way, refused-by, accepted-by}
 use Rattle.answers.specs.Answer.{numbersOf, refusedCall}
-use Rattle.picture.specs.Draw.{cellDrawn, shownBy, placeOf}
-use Rattle.picture.specs.Repaint.{ListedIn}
+use Rattle.paint.specs.Draw.{cellDrawn, shownBy, placeOf}
+use Rattle.paint.specs.Repaint.{ListedIn}
 use Rattle.picture.specs.Calls.{Lent, lineChecks, heard, altered, withListed, shownBefore, lineSaid, Lines}
 use Rattle.picture.proofs.Theorems as pictures
 use Rattle.whole.specs.declared.line.Called.{Called}

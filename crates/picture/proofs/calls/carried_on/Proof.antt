@@ -1,6 +1,7 @@
 use borrow.Author.Tests.{eq-eqb, ne-eqb}
 use Rattle.answers.proofs.Checks.{here, later}
 use Rattle.picture.proofs.LineCalls.{carried-refused, carried-accepted}
+use Rattle.paint.proofs.Sizes.{repaints-sized}
 use borrow.Author.Needs.{needs}
 use Rattle.picture.proofs.calls.carried_on.Statement.{statement}
 use Rattle.picture.proofs.calls.carried_on.Tie as tie
@@ -8,7 +9,7 @@ use Rattle.picture.proofs.calls.carried_on.Reads as reads
 use Rattle.picture.proofs.calls.carried_on.Lts as lts
 use Rattle.answers.proofs.refused_call.Reads as refused-call-reads
 use Rattle.command.proofs.hear.hear.Reads as hear-reads
-use Rattle.picture.proofs.repaint.repaint.Reads as repaint-reads
+use Rattle.paint.proofs.repaint.repaint.Reads as repaint-reads
 
 refused-call-requires : tie.Need-refused-call-requires
 refused-call-requires c κs = search needs
@@ -46,7 +47,7 @@ returns-3 c =
     let a = c .before .before .before .before .before .before .before .before .before .before .before .before .before .before .before .before .before .before .before .args in
     let h = c .before .before .before .before .before .before .before .before .before .before .before .hear in
     let d = c .before .before .before .before .repaint in
-    carried-accepted (a .p) (a .s) (a .picture .now) (a .font .now) (a .list .now) (a .reply .now) (h .result) (d .result) _ _ _ (eq-eqb _ _ (c .before .before .before .before .before .before .before .before .before .before .before .before .before .before .if1 .left), (eq-eqb _ _ (c .before .before .before .before .before .before .before .before .before .before .before .before .before .if2 .left), tt)) (h .ensures) (d .ensures)
+    carried-accepted (a .p) (a .s) (a .picture .now) (a .font .now) (a .list .now) (a .reply .now) (h .result) (d .result) _ _ _ (eq-eqb _ _ (c .before .before .before .before .before .before .before .before .before .before .before .before .before .before .if1 .left), (eq-eqb _ _ (c .before .before .before .before .before .before .before .before .before .before .before .before .before .if2 .left), tt)) (h .ensures) (repaints-sized _ _ _ _ _ _ _ _ (c .before .before .before .before .before .before .before .before .before .before .before .before .before .before .if1 .left) (c .before .before .before .before .before .before .before .before .before .before .before .before .before .if2 .left) (d .ensures))
 
 pub carried-on-spec : {M : Type 1} → statement M
 carried-on-spec =

@@ -1,0 +1,53 @@
+// Drawing: the eight bytes of a code, and where they stand in the picture.
+ghost use mathlib.Core.Path.{_≡_};
+ghost use Prim.Native.Nat.{_<_};
+ghost use lib.ListN.{length};
+ghost use Rattle.paint.specs.Draw.{placeOf, lowSix, codeDrawn, put};
+
+// Where byte k of a cell stands.
+fn place(cell: usize, k: usize) -> usize
+    requires { ⌜ (cell < 80) × (k < 8) ⌝ }
+    ensures { λ r. ⌜ (r ≡ placeOf cell k) × (r < 640) ⌝ }
+{
+    8 * cell + k
+}
+
+fn low_six(rows: [u8; 8]) -> [u8; 8]
+    ensures { λ r. ⌜ r ≡ lowSix rows ⌝ }
+{
+    [
+        rows[0] % 64,
+        rows[1] % 64,
+        rows[2] % 64,
+        rows[3] % 64,
+        rows[4] % 64,
+        rows[5] % 64,
+        rows[6] % 64,
+        rows[7] % 64,
+    ]
+}
+
+// The eight bytes that a code draws.
+pub fn draw(glyphs: [[u8; 8]; 8], font: &[u8], code: u8) -> [u8; 8]
+    ensures { λ r. ⌜ r ≡ codeDrawn glyphs (now (font .entry)) code ⌝ }
+{
+    if code < 8 {
+        let i = code as usize;
+        let glyph = glyphs[i];
+        return glyphs::rows_of(glyph);
+    }
+    low_six(glyphs::eight(font, 8 * (code as u16)))
+}
+
+// A cell's eight bytes into the picture.
+pub fn put_cell(picture: &mut [u8], cell: usize, bytes: [u8; 8])
+    requires { ⌜ (length (now picture) ≡ 640) × (cell < 80) ⌝ }
+    ensures { λ r. ⌜ now (picture .exit) ≡ put cell bytes (now (picture .entry)) 8 ⌝ }
+{
+    let mut k: usize = 0;
+    while k < 8 {
+        let i = place(cell, k);
+        picture[i] = bytes[k];
+        k += 1;
+    }
+}
