@@ -3,8 +3,8 @@ ghost use mathlib.Core.Path.{_≡_};
 ghost use Rattle.command.specs.Hear.{writtenLength, written, Hears};
 use answers::Answer;
 use answers::Said;
-use packets::packet::Packet;
 use framing::scan::Scanned;
+use packets::packet::Packet;
 use panel::state::Panel;
 
 // The unfiled number is left as it is: what a refusal does to it is the register's to say.

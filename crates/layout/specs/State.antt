@@ -73,8 +73,11 @@ bodyOf b =
       flash = run b 382 16;
     }
 
+abbrev pub unfiledOf : List ℕ → ℕ
+unfiledOf b = wordOf (getD b 398 0) (getD b 399 0) (getD b 400 0) (getD b 401 0)
+
 unfoldable pub panelOf : List ℕ → Panel
-panelOf b = record { hold = holdOf b; body = bodyOf b; unfiled = wordOf (getD b 398 0) (getD b 399 0) (getD b 400 0) (getD b 401 0) }
+panelOf b = record { hold = holdOf b; body = bodyOf b; unfiled = unfiledOf b }
 
 -- "not 402 bytes, or an edge or level byte above 1": no state
 unfoldable pub readable : List ℕ → Bool

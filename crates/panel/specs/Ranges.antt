@@ -3,7 +3,7 @@
 use Prim.Native.Nat.{ℕ}
 use mathlib.Core.Path.{_≡_}
 use mathlib.Core.Bool.{Bool, _&&_}
-use mathlib.Core.List.{List}
+use mathlib.Core.List.{List, []}
 use Rattle.lists.specs.Tests.{_≤?_, all, allAtMost}
 use Rattle.verdict.specs.Table.{configAllowed}
 use Rattle.panel.specs.declared.state.Settings.{Settings}
@@ -35,6 +35,28 @@ keysInRange k = (k .down ≤? 63) && (k .pressed ≤? 63) && (k .released ≤? 6
 unfoldable pub inRanges : Panel → Bool
 inRanges p =
     (p .hold .count ≤? 25) && settingsInRange (p .body .live) && settingsInRange (p .body .boot) && keysInRange (p .body .keys)
+
+-- settings of these parts; as a text is free, the empty one stands for each
+abbrev pub settingsWith : ℕ → ℕ → ℕ → ℕ → ℕ → ℕ → ℕ → List ℕ → List ℕ → List ℕ → Settings
+settingsWith column row style contrast backlight press release glyphs levels configs =
+    record {
+      text = [];
+      glyphs = glyphs;
+      column = column;
+      row = row;
+      style = style;
+      contrast = contrast;
+      backlight = backlight;
+      press = press;
+      release = release;
+      levels = levels;
+      configs = configs;
+    }
+
+-- what `parts_in_range` promises
+abbrev pub PartsRange : ℕ → ℕ → ℕ → ℕ → ℕ → ℕ → ℕ → List ℕ → List ℕ → List ℕ → Bool → Type 0
+PartsRange column row style contrast backlight press release glyphs levels configs r =
+    r ≡ settingsInRange (settingsWith column row style contrast backlight press release glyphs levels configs)
 
 -- what `in_ranges` promises
 abbrev pub Ranges : Panel → Bool → Type 0

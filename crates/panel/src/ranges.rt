@@ -1,6 +1,6 @@
 // Whether a state is in its ranges.
 ghost use mathlib.Core.Path.{_≡_};
-ghost use Rattle.panel.specs.Ranges.{configsInRange, numbersInRange, settingsInRange, keysInRange, Ranges};
+ghost use Rattle.panel.specs.Ranges.{configsInRange, settingsInRange, keysInRange, PartsRange, Ranges};
 use crate::state::Keys;
 use crate::state::Panel;
 use crate::state::Settings;
@@ -17,26 +17,52 @@ fn configs_in_range(configs: &[u8]) -> bool
     ok
 }
 
-fn numbers_in_range(s: Settings) -> bool
-    ensures { λ r. ⌜ r ≡ numbersInRange s ⌝ }
+// Whether settings of these parts are in their ranges. A text is free, so that none is asked for.
+pub fn parts_in_range(
+    column: u8,
+    row: u8,
+    style: u8,
+    contrast: u8,
+    backlight: u8,
+    press: u8,
+    release: u8,
+    glyphs: &[u8],
+    levels: &[u8],
+    configs: &[u8],
+) -> bool
+    ensures { λ r. ⌜ PartsRange column row style contrast backlight press release (now (glyphs .entry)) (now (levels .entry)) (now (configs .entry)) r ⌝ }
 {
-    (s.column <= 19)
-        & (s.row <= 3)
-        & (s.style <= 4)
-        & (s.contrast <= 254)
-        & (s.backlight <= 100)
-        & (s.press <= 63)
-        & (s.release <= 63)
+    let numbers = (column <= 19)
+        & (row <= 3)
+        & (style <= 4)
+        & (contrast <= 254)
+        & (backlight <= 100)
+        & (press <= 63)
+        & (release <= 63);
+    let rows = lists::all_at_most(glyphs, 63);
+    let heights = lists::all_at_most(levels, 100);
+    let drives = configs_in_range(configs);
+    numbers & rows & heights & drives
 }
 
 fn settings_in_range(s: Settings) -> bool
     ensures { λ r. ⌜ r ≡ settingsInRange s ⌝ }
 {
-    let numbers = numbers_in_range(s);
-    let glyphs = lists::all_at_most(&s.glyphs, 63);
-    let levels = lists::all_at_most(&s.levels, 100);
-    let configs = configs_in_range(&s.configs);
-    numbers & glyphs & levels & configs
+    let glyphs = s.glyphs;
+    let levels = s.levels;
+    let configs = s.configs;
+    parts_in_range(
+        s.column,
+        s.row,
+        s.style,
+        s.contrast,
+        s.backlight,
+        s.press,
+        s.release,
+        &glyphs,
+        &levels,
+        &configs,
+    )
 }
 
 fn keys_in_range(k: Keys) -> bool

@@ -1,6 +1,7 @@
 // Settings from 169 bytes: the live ones and the boot state stand in the state the same way.
 ghost use mathlib.Core.Path.{_≡_};
 ghost use lib.ListN.{length};
+ghost use Rattle.panel.specs.Ranges.{settingsInRange};
 ghost use Rattle.layout.specs.Settings.{settingsOf};
 use panel::state::Settings;
 
@@ -30,4 +31,23 @@ pub fn settings_of(bytes: &[u8]) -> Settings
         levels,
         configs,
     }
+}
+
+// Whether the settings that the bytes are, are in their ranges.
+pub fn in_range(bytes: &[u8]) -> bool
+    requires { ⌜ length (now bytes) ≡ 169 ⌝ }
+    ensures { λ r. ⌜ r ≡ settingsInRange (settingsOf (now (bytes .entry))) ⌝ }
+{
+    panel::ranges::parts_in_range(
+        bytes[144],
+        bytes[145],
+        bytes[146],
+        bytes[147],
+        bytes[148],
+        bytes[149],
+        bytes[150],
+        &bytes[80..144],
+        &bytes[151..164],
+        &bytes[164..169],
+    )
 }

@@ -2,8 +2,8 @@
 ghost use mathlib.Core.Path.{_≡_};
 ghost use Prim.Native.Nat.{_+_, _≤_};
 ghost use lib.ListN.{length};
-ghost use Rattle.layout.specs.State.{fiveAt, holdOf, bodyOf, panelOf};
-ghost use Rattle.unpacking.specs.State.{unread, ReadsState};
+ghost use Rattle.layout.specs.State.{fiveAt, holdOf, bodyOf, unfiledOf, panelOf};
+ghost use Rattle.unpacking.specs.State.{unread, acceptable, ReadsState, ReadsLine};
 use crate::settings::settings_of;
 use packets::hold::Hold;
 use panel::state::Body;
@@ -15,6 +15,14 @@ use panel::state::Pins;
 pub struct Reading {
     pub readable: bool,
     pub panel: Panel,
+}
+
+// What a line call looks at before it finds a packet: whether the bytes are a state in its ranges, the held bytes and the
+// unfiled number.
+pub struct Line {
+    pub in_ranges: bool,
+    pub hold: Hold,
+    pub unfiled: u32,
 }
 
 fn hold_of(state: &[u8]) -> Hold
@@ -77,13 +85,20 @@ fn body_of(state: &[u8]) -> Body
     }
 }
 
+fn unfiled_of(state: &[u8]) -> u32
+    requires { ⌜ length (now state) ≡ 402 ⌝ }
+    ensures { λ r. ⌜ r ≡ unfiledOf (now (state .entry)) ⌝ }
+{
+    layout::words::word_of(state[398], state[399], state[400], state[401])
+}
+
 fn panel_of(state: &[u8]) -> Panel
     requires { ⌜ length (now state) ≡ 402 ⌝ }
     ensures { λ r. ⌜ r ≡ panelOf (now (state .entry)) ⌝ }
 {
     let hold = hold_of(state);
     let body = body_of(state);
-    let unfiled = layout::words::word_of(state[398], state[399], state[400], state[401]);
+    let unfiled = unfiled_of(state);
     Panel {
         hold,
         body,
@@ -115,5 +130,35 @@ fn unread() -> Reading
     Reading {
         readable: false,
         panel,
+    }
+}
+
+fn in_ranges(state: &[u8]) -> bool
+    requires { ⌜ length (now state) ≡ 402 ⌝ }
+    ensures { λ r. ⌜ r ≡ acceptable (now (state .entry)) ⌝ }
+{
+    let bits = lists::all_at_most(&state[367..382], 1);
+    let live = crate::settings::in_range(&state[26..195]);
+    let boot = crate::settings::in_range(&state[195..364]);
+    let keys = (state[364] <= 63) & (state[365] <= 63) & (state[366] <= 63);
+    bits & ((state[0] <= 25) & live & boot & keys)
+}
+
+// The line's part of the bytes, without the body.
+pub fn read_line(state: &[u8]) -> Line
+    ensures { λ r. ⌜ ReadsLine (now (state .entry)) r ⌝ }
+{
+    if state.len() != 402 {
+        return Line {
+            in_ranges: false,
+            hold: packets::hold::empty(),
+            unfiled: 0,
+        };
+    }
+    let hold = hold_of(state);
+    Line {
+        in_ranges: in_ranges(state),
+        hold,
+        unfiled: unfiled_of(state),
     }
 }

@@ -1,36 +1,33 @@
-use Rattle.panel.specs.Ranges.{settingsInRange}
-use native.Mathlib.Omega.{arith}
+use Rattle.panel.specs.Ranges.{numbersInRange, settingsInRange}
 use borrow.Author.Needs.{needs}
 use Rattle.panel.proofs.ranges.settings_in_range.Statement.{statement}
 use Rattle.panel.proofs.ranges.settings_in_range.Tie as tie
 use Rattle.panel.proofs.ranges.settings_in_range.Reads as reads
 use Rattle.panel.proofs.ranges.settings_in_range.Lts as lts
-use Rattle.lists.proofs.all_at_most.Reads as all-at-most-reads
-use Rattle.panel.proofs.ranges.configs_in_range.Reads as configs-in-range-reads
-use Rattle.panel.proofs.ranges.numbers_in_range.Reads as numbers-in-range-reads
+use Rattle.panel.proofs.ranges.parts_in_range.Reads as parts-in-range-reads
 
-numbers-in-range-requires : tie.Need-numbers-in-range-requires
-numbers-in-range-requires c κs = search needs
+slice-aggregate-parts-in-range : tie.Need-slice-aggregate-parts-in-range
+slice-aggregate-parts-in-range c = search needs
 
-all-at-most-requires : tie.Need-all-at-most-requires
-all-at-most-requires c κs = search needs
+slice-aggregate-parts-in-range-2 : tie.Need-slice-aggregate-parts-in-range-2
+slice-aggregate-parts-in-range-2 c = search needs
 
-all-at-most-requires-2 : tie.Need-all-at-most-requires-2
-all-at-most-requires-2 c κs = search needs
+slice-aggregate-parts-in-range-3 : tie.Need-slice-aggregate-parts-in-range-3
+slice-aggregate-parts-in-range-3 c = search needs
 
-configs-in-range-requires : tie.Need-configs-in-range-requires
-configs-in-range-requires c κs = search needs
+parts-in-range-requires : tie.Need-parts-in-range-requires
+parts-in-range-requires c κs = search needs
 
 returns : tie.Need-returns
-unfolding settingsInRange
-returns c = cc
+unfolding settingsInRange numbersInRange
+returns c = c .parts-in-range .ensures
 
 pub settings-in-range-spec : {M : Type 1} → statement M
 settings-in-range-spec =
     tie.close
     (tie.spec
-    numbers-in-range-requires
-    all-at-most-requires
-    all-at-most-requires-2
-    configs-in-range-requires
+    slice-aggregate-parts-in-range
+    slice-aggregate-parts-in-range-2
+    slice-aggregate-parts-in-range-3
+    parts-in-range-requires
     returns)
