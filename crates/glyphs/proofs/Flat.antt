@@ -1,13 +1,15 @@
 -- Laws of the glyphs, nested and flat.
 use mathlib.Core.Path.{_≡_, refl, sym, _∙_, ap}
+use mathlib.Core.Logic.{dite}
 use mathlib.Core.List.{List, [], _∷_, map}
-use Prim.Native.Nat.{ℕ, zero, suc, _+_, _*_, _<_, _≤_}
+use Prim.Native.Nat.{ℕ, zero, suc, _+_, _*_, _<_, _≤_, min}
+use native.Mathlib.Decide.{decLt}
 use native.Mathlib.Numerals.{add-one}
 use native.Mathlib.Omega.{arith}
-use lib.ListN.{length, getD, drop, length-append, drop-of-length-le}
-use lib.Seq.{drop-cons}
+use lib.ListN.{length, getD, take, drop, replicate, length-append, length-take, drop-of-length-le, List·getD-eq-default}
+use lib.Seq.{drop-cons, take-nil}
 use Rattle.lists.specs.Runs.{front, pasted}
-use Rattle.lists.proofs.Laws.{front-run}
+use Rattle.lists.proofs.Laws.{front-run, pasted-front, drop-most}
 use Rattle.glyphs.specs.Glyphs.{eightFrom, nestedOf, flatFirst, flatOf}
 
 pub length-flat : (n : ℕ) (glyphs : List (List ℕ)) → length (flatFirst n glyphs) ≡ 8 * n
@@ -30,6 +32,36 @@ elements d l k (suc n) = getD l k d ∷ elements d l (suc k) n
 pub all-elements {ℓ} : {A : Type ℓ} (d : A) (l : List A) (k n : ℕ) → length l ≡ k + n → elements d l k n ≡ drop k l
 all-elements d l k zero h = sym (drop-of-length-le l {i = k} (omega arith))
 all-elements d l k (suc n) h = rw (all-elements d l (suc k) n (omega arith)) (sym (drop-cons l k d (omega arith)))
+
+-- they are what there is of the list, with zeros behind
+zeros-behind : (l : List ℕ) (k n : ℕ) → front (take n (drop k l)) (replicate n 0) ≡ elements 0 l k n
+zeros-behind l k zero = refl
+zeros-behind l k (suc n) =
+    dite (decLt k (length l)) (λ h. rw (drop-cons l k 0 h) (ap (λ (r : List ℕ). getD l k 0 ∷ r) (zeros-behind l (suc k) n)))
+    (λ h.
+    let none : drop k l ≡ [] = drop-of-length-le l {i = k} (omega arith) in
+    let still : drop (suc k) l ≡ [] = drop-of-length-le l {i = suc k} (omega arith) in
+    let nought : getD l k 0 ≡ 0 = List·getD-eq-default l 0 {n = k} (omega arith) in
+    let rest : front (take n (drop (suc k) l)) (replicate n 0) ≡ replicate n 0 = rw (still, take-nil n) in
+    rw (none, nought) (ap (λ (r : List ℕ). 0 ∷ r) (sym rest ∙ zeros-behind l (suc k) n)))
+
+eight-elements : (l : List ℕ) (k : ℕ) → elements 0 l k 8 ≡ eightFrom l k
+eight-elements l k =
+    let s₁ : suc k ≡ k + 1 = omega arith in
+    let s₂ : suc (suc k) ≡ k + 2 = omega arith in
+    let s₃ : suc (suc (suc k)) ≡ k + 3 = omega arith in
+    let s₄ : suc (suc (suc (suc k))) ≡ k + 4 = omega arith in
+    let s₅ : suc (suc (suc (suc (suc k)))) ≡ k + 5 = omega arith in
+    let s₆ : suc (suc (suc (suc (suc (suc k))))) ≡ k + 6 = omega arith in
+    let s₇ : suc (suc (suc (suc (suc (suc (suc k)))))) ≡ k + 7 = omega arith in
+    λ i. getD l k 0 ∷ getD l (s₁ i) 0 ∷ getD l (s₂ i) 0 ∷ getD l (s₃ i) 0 ∷ getD l (s₄ i) 0 ∷ getD l (s₅ i) 0 ∷ getD l (s₆ i) 0 ∷ getD l (s₇ i) 0 ∷ []
+
+-- what there is of eight, laid into eight zeros
+pub eight-pasted : (l : List ℕ) (from k : ℕ) (run : List ℕ) → k ≡ min from (length l) → run ≡ take 8 (drop k l) → pasted (replicate 8 0) 0 run ≡ eightFrom l from
+eight-pasted l from k run e r =
+    let there : run ≡ take 8 (drop from l) = r ∙ ap (take 8) (drop-most k from l (omega arith)) in
+    let fits : length (take 8 (drop from l)) ≤ 8 = omega (arith, length-take 8 (drop from l)) in
+    rw there (pasted-front (take 8 (drop from l)) (replicate 8 0) fits ∙ zeros-behind l from 8 ∙ eight-elements l from)
 
 rows-whole : (glyphs : List (List ℕ)) → ((g : ℕ) → g < length glyphs → length (getD glyphs g []) ≡ 8) → map (λ rows. eightFrom rows 0) glyphs ≡ glyphs
 rows-whole [] h = refl

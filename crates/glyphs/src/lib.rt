@@ -5,17 +5,14 @@ ghost use Rattle.glyphs.specs.Glyphs.{Reads8, Nests, TakesRows, Flattens
 pub fn eight(bytes: &[u8], from: u16) -> [u8; 8]
     ensures { λ r. ⌜ Reads8 (now (bytes .entry)) from r ⌝ }
 {
-    let k = from as usize;
-    [
-        lists::at(bytes, k),
-        lists::at(bytes, k + 1),
-        lists::at(bytes, k + 2),
-        lists::at(bytes, k + 3),
-        lists::at(bytes, k + 4),
-        lists::at(bytes, k + 5),
-        lists::at(bytes, k + 6),
-        lists::at(bytes, k + 7),
-    ]
+    let mut rows = [0u8; 8];
+    let k = lists::at_most(from as usize, bytes.len());
+    if k + 8 <= bytes.len() {
+        lists::paste(&mut rows, 0, &bytes[k..k + 8]);
+    } else {
+        lists::paste(&mut rows, 0, &bytes[k..]);
+    }
+    rows
 }
 
 // The glyphs as eight arrays of eight rows.

@@ -1,76 +1,87 @@
+use Prim.Native.Nat.{_+_, _-_, _≤_}
+use mathlib.Core.Path.{_≡_, sym, _∙_}
+use lib.ListN.{length, drop, length-drop}
+use lib.Seq.{take-all}
+use Rattle.lists.proofs.Laws.{all-behind}
+use Rattle.glyphs.proofs.Flat.{eight-pasted}
 use native.Mathlib.Omega.{arith}
 use borrow.Author.Needs.{needs}
 use Rattle.glyphs.proofs.eight.Statement.{statement}
 use Rattle.glyphs.proofs.eight.Tie as tie
 use Rattle.glyphs.proofs.eight.Reads as reads
 use Rattle.glyphs.proofs.eight.Lts as lts
-use Rattle.lists.proofs.at.Reads as at-reads
+use Rattle.lists.proofs.at_most.Reads as at-most-reads
+use Rattle.lists.proofs.paste.Reads as paste-reads
 
-at-requires : tie.Need-at-requires
-at-requires c κs = search needs
+at-most-requires : tie.Need-at-most-requires
+at-most-requires c κs = search needs
 
-add-at : tie.Need-add-at
-add-at c = search needs
+add-if1 : tie.Need-add-if1
+add-if1 c = search needs
 
-at-requires-2 : tie.Need-at-requires-2
-at-requires-2 c κs = search needs
+slice-aggregate-paste : tie.Need-slice-aggregate-paste
+slice-aggregate-paste c = search needs
 
-add-at-2 : tie.Need-add-at-2
-add-at-2 c = search needs
+add-paste : tie.Need-add-paste
+add-paste c = search needs
 
-at-requires-3 : tie.Need-at-requires-3
-at-requires-3 c κs = search needs
+sub-paste : tie.Need-sub-paste
+sub-paste c = search needs
 
-add-at-3 : tie.Need-add-at-3
-add-at-3 c = search needs
+part-paste-start : tie.Need-part-paste-start
+part-paste-start c = search needs
 
-at-requires-4 : tie.Need-at-requires-4
-at-requires-4 c κs = search needs
+part-paste-end : tie.Need-part-paste-end
+part-paste-end c = search needs
 
-add-at-4 : tie.Need-add-at-4
-add-at-4 c = search needs
+paste-requires : tie.Need-paste-requires
+paste-requires c κs = search needs
 
-at-requires-5 : tie.Need-at-requires-5
-at-requires-5 c κs = search needs
+slice-aggregate-paste-2 : tie.Need-slice-aggregate-paste-2
+slice-aggregate-paste-2 c = search needs
 
-add-at-5 : tie.Need-add-at-5
-add-at-5 c = search needs
+sub-paste-2 : tie.Need-sub-paste-2
+sub-paste-2 c = search needs
 
-at-requires-6 : tie.Need-at-requires-6
-at-requires-6 c κs = search needs
+part-paste-start-2 : tie.Need-part-paste-start-2
+part-paste-start-2 c = search needs
 
-add-at-6 : tie.Need-add-at-6
-add-at-6 c = search needs
+part-paste-end-2 : tie.Need-part-paste-end-2
+part-paste-end-2 c = search needs
 
-at-requires-7 : tie.Need-at-requires-7
-at-requires-7 c κs = search needs
-
-add-at-7 : tie.Need-add-at-7
-add-at-7 c = search needs
-
-at-requires-8 : tie.Need-at-requires-8
-at-requires-8 c κs = search needs
+paste-requires-2 : tie.Need-paste-requires-2
+paste-requires-2 c κs = search needs
 
 returns : tie.Need-returns
-returns c = rw (c .before .before .before .before .before .before .before .at .ensures, c .before .before .before .before .before .before .at2 .ensures, c .before .before .before .before .before .at3 .ensures, c .before .before .before .before .at4 .ensures, c .before .before .before .at5 .ensures, c .before .before .at6 .ensures, c .before .at7 .ensures, c .at8 .ensures)
+returns c =
+    let k = c .before .before .before .before .before .at-most in
+    let l = c .before .before .before .before .before .before .before .args .bytes .now in
+    let e : k .result + 8 - k .result ≡ 8 = omega arith in
+    c .before .paste .ensures ∙ eight-pasted l _ (k .result) _ (k .ensures) (rw e)
+
+returns-2 : tie.Need-returns-2
+returns-2 c =
+    let k = c .before .before .before .before .before .at-most in
+    let l = c .before .before .before .before .before .before .before .args .bytes .now in
+    let few : length (drop (k .result) l) ≤ 8 = omega (arith, length-drop (k .result) l) in
+    c .before .paste2 .ensures ∙ eight-pasted l _ (k .result) _ (k .ensures) (all-behind (k .result) l ∙ sym (take-all 8 (drop (k .result) l) few))
 
 pub eight-spec : {M : Type 1} → statement M
 eight-spec =
     tie.close
     (tie.spec
-    at-requires
-    add-at
-    at-requires-2
-    add-at-2
-    at-requires-3
-    add-at-3
-    at-requires-4
-    add-at-4
-    at-requires-5
-    add-at-5
-    at-requires-6
-    add-at-6
-    at-requires-7
-    add-at-7
-    at-requires-8
-    returns)
+    at-most-requires
+    add-if1
+    slice-aggregate-paste
+    add-paste
+    sub-paste
+    part-paste-start
+    part-paste-end
+    paste-requires
+    slice-aggregate-paste-2
+    sub-paste-2
+    part-paste-start-2
+    part-paste-end-2
+    paste-requires-2
+    returns
+    returns-2)
