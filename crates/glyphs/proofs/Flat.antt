@@ -8,6 +8,11 @@ use native.Mathlib.Numerals.{add-one}
 use native.Mathlib.Omega.{arith}
 use lib.ListN.{length, getD, take, drop, replicate, length-append, length-take, drop-of-length-le, List·getD-eq-default}
 use lib.Seq.{drop-cons, take-nil}
+use mir.Syntax.{w8}
+use mir.Val.{Val}
+use denote.Array.{each, inArray}
+use denote.Plain.{UInt}
+use denote.Shadow.{shadow}
 use Rattle.lists.specs.Runs.{front, pasted}
 use Rattle.lists.proofs.Laws.{front-run, pasted-front, drop-most}
 use Rattle.glyphs.specs.Glyphs.{eightFrom, nestedOf, flatFirst, flatOf}
@@ -63,10 +68,20 @@ eight-pasted l from k run e r =
     let fits : length (take 8 (drop from l)) ≤ 8 = omega (arith, length-take 8 (drop from l)) in
     rw there (pasted-front (take 8 (drop from l)) (replicate 8 0) fits ∙ zeros-behind l from 8 ∙ eight-elements l from)
 
+pub eight-whole : (l : List ℕ) → length l ≡ 8 → eightFrom l 0 ≡ l
+eight-whole l h = all-elements 0 l 0 8 h
+
+-- a glyph of an array of eight-byte arrays has eight rows
+pub rows-eight : (glyphs : List (List ℕ)) (us : List Val) (g : ℕ) → g < length glyphs → shadow (each (List ℕ) (inArray ℕ (UInt w8 .own) 8) glyphs us) → length (getD glyphs g []) ≡ 8
+rows-eight [] us g h p = absurd (omega arith)
+rows-eight (rows ∷ glyphs) [] g h p = absurd p
+rows-eight (rows ∷ glyphs) (u ∷ us) zero h p = p .0 .1 .0 .1
+rows-eight (rows ∷ glyphs) (u ∷ us) (suc g) h p = rows-eight glyphs us g (omega arith) (p .1)
+
 rows-whole : (glyphs : List (List ℕ)) → ((g : ℕ) → g < length glyphs → length (getD glyphs g []) ≡ 8) → map (λ rows. eightFrom rows 0) glyphs ≡ glyphs
 rows-whole [] h = refl
 rows-whole (rows ∷ glyphs) h =
-    let e : eightFrom rows 0 ≡ rows = all-elements 0 rows 0 8 (h 0 (omega arith)) in
+    let e = eight-whole rows (h 0 (omega arith)) in
     let f = rows-whole glyphs (λ g l. h (suc g) (omega arith)) in
     cc
 

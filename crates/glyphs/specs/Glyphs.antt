@@ -46,10 +46,6 @@ Reads8 bytes from r = r ≡ eightFrom bytes from
 abbrev pub Nests : List ℕ → List (List ℕ) → Type 0
 Nests flat r = r ≡ nestedOf flat
 
--- what `rows_of` promises
-abbrev pub TakesRows : List ℕ → List ℕ → Type 0
-TakesRows glyph r = r ≡ eightFrom glyph 0
-
 -- what `flattened` promises
 abbrev pub Flattens : List (List ℕ) → List ℕ → Type 0
 Flattens glyphs r = r ≡ flatOf glyphs

@@ -1,5 +1,5 @@
 // The eight special glyphs: an array of eight-byte arrays while they are set or drawn, flat in the state.
-ghost use Rattle.glyphs.specs.Glyphs.{Reads8, Nests, TakesRows, Flattens, Sets};
+ghost use Rattle.glyphs.specs.Glyphs.{Reads8, Nests, Flattens, Sets};
 
 // The eight bytes from an index on, zeros past the end.
 pub fn eight(bytes: &[u8], from: u16) -> [u8; 8]
@@ -31,22 +31,6 @@ pub fn nested(flat: [u8; 64]) -> [[u8; 8]; 8]
     ]
 }
 
-// The eight rows of a glyph, one by one.
-pub fn rows_of(glyph: [u8; 8]) -> [u8; 8]
-    ensures { λ r. ⌜ TakesRows glyph r ⌝ }
-{
-    [
-        glyph[0],
-        glyph[1],
-        glyph[2],
-        glyph[3],
-        glyph[4],
-        glyph[5],
-        glyph[6],
-        glyph[7],
-    ]
-}
-
 // The glyphs one behind the other.
 pub fn flattened(glyphs: [[u8; 8]; 8]) -> [u8; 64]
     ensures { λ r. ⌜ Flattens glyphs r ⌝ }
@@ -55,8 +39,7 @@ pub fn flattened(glyphs: [[u8; 8]; 8]) -> [u8; 64]
     let mut g: usize = 0;
     while g < 8 {
         let glyph = glyphs[g];
-        let rows = rows_of(glyph);
-        lists::paste(&mut flat, 8 * g, &rows);
+        lists::paste(&mut flat, 8 * g, &glyph);
         g += 1;
     }
     flat

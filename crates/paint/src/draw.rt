@@ -33,8 +33,7 @@ pub fn draw(glyphs: [[u8; 8]; 8], font: &[u8], code: u8) -> [u8; 8]
 {
     if code < 8 {
         let i = code as usize;
-        let glyph = glyphs[i];
-        return glyphs::rows_of(glyph);
+        return glyphs[i];
     }
     low_six(glyphs::eight(font, 8 * (code as u16)))
 }

@@ -1,10 +1,11 @@
 use Prim.Native.Nat.{ℕ, _≤_, _-_}
 use mathlib.Core.Path.{_≡_, refl, sym, _∙_, ap}
-use lib.ListN.{length, replicate}
+use mathlib.Core.List.{[]}
+use lib.ListN.{length, getD, replicate}
 use Rattle.lists.specs.Runs.{front}
 use Rattle.lists.proofs.Laws.{whole-front}
 use Rattle.glyphs.specs.Glyphs.{flatFirst, flatOf}
-use Rattle.glyphs.proofs.Flat.{flat-turn, length-flat}
+use Rattle.glyphs.proofs.Flat.{flat-turn, length-flat, eight-whole, rows-eight}
 use native.Mathlib.Omega.{arith}
 use borrow.Author.Needs.{needs}
 use Rattle.glyphs.proofs.flattened.Statement.{statement}
@@ -12,7 +13,6 @@ use Rattle.glyphs.proofs.flattened.Tie as tie
 use Rattle.glyphs.proofs.flattened.Reads as reads
 use Rattle.glyphs.proofs.flattened.Lts as lts
 use Rattle.lists.proofs.paste.Reads as paste-reads
-use Rattle.glyphs.proofs.rows_of.Reads as rows-of-reads
 
 abbrev Inv-loop : tie.InvT-loop
 Inv-loop glyphs flat₀ g₀ flat g = (g ≤ 8) × (flat ≡ front (flatFirst g glyphs) (replicate 64 0)) × (length flat ≡ 64)
@@ -30,17 +30,17 @@ mul-glyph c = search needs
 array-copy-out-glyph : tie.Need-array-copy-out-glyph Inv-loop μ-loop
 array-copy-out-glyph c = search needs
 
-rows-of-requires : tie.Need-rows-of-requires Inv-loop μ-loop
-rows-of-requires c κs = search needs
-
 slice-aggregate-paste : tie.Need-slice-aggregate-paste Inv-loop μ-loop
-slice-aggregate-paste c = sym (c .before .before .before .before .loop .inv .2)
+slice-aggregate-paste c = sym (c .before .before .before .loop .inv .2)
 
 mul-paste : tie.Need-mul-paste Inv-loop μ-loop
 mul-paste c = search needs
 
 slice-aggregate-paste-2 : tie.Need-slice-aggregate-paste-2 Inv-loop μ-loop
-slice-aggregate-paste-2 c = search needs
+slice-aggregate-paste-2 c =
+    let l = c .before .before .before .before .loop in
+    let a = c .before .before .before .before .before in
+    sym (rows-eight (a .args .t1) (a .good .0 .0) (l .g) (omega (arith, a .good .0 .1 .0 .1)) (a .good .0 .1 .1))
 
 paste-requires : tie.Need-paste-requires Inv-loop μ-loop
 paste-requires c κs = search needs
@@ -53,11 +53,12 @@ loop-less c = search needs
 
 loop-again : tie.Need-loop-again Inv-loop μ-loop
 loop-again c =
-    let l = c .before .before .before .before .before .before .before .loop in
-    let gs = c .before .before .before .before .before .before .before .before .args .t1 in
+    let l = c .before .before .before .before .before .before .loop in
+    let a = c .before .before .before .before .before .before .before in
+    let e = rows-eight (a .args .t1) (a .good .0 .0) (l .g) (omega (arith, a .good .0 .1 .0 .1)) (a .good .0 .1 .1) in
     let p = c .before .paste in (
       search needs,
-      p .ensures ∙ rw (l .inv .1, c .before .before .before .before .rows-of .ensures) (flat-turn (l .g) gs (replicate 64 0) (omega arith)),
+      p .ensures ∙ rw (l .inv .1, ← eight-whole (getD (a .args .t1) (l .g) []) e) (flat-turn (l .g) (a .args .t1) (replicate 64 0) (omega arith)),
       p .kept .0 ∙ l .inv .2,
     )
 
@@ -78,7 +79,6 @@ flattened-spec =
     loop-holds
     mul-glyph
     array-copy-out-glyph
-    rows-of-requires
     slice-aggregate-paste
     mul-paste
     slice-aggregate-paste-2

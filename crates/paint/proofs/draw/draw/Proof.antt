@@ -1,4 +1,5 @@
 use mathlib.Core.Path.{_∙_, sym, ap}
+use Rattle.glyphs.proofs.Flat.{eight-whole, rows-eight}
 use Rattle.paint.specs.Draw.{lowSix}
 use Rattle.paint.proofs.Codes.{drawn-special, drawn-font}
 use native.Mathlib.Omega.{arith}
@@ -9,21 +10,19 @@ use Rattle.paint.proofs.draw.draw.Reads as reads
 use Rattle.paint.proofs.draw.draw.Lts as lts
 use Rattle.glyphs.proofs.eight.Reads as eight-reads
 use Rattle.paint.proofs.draw.low_six.Reads as low-six-reads
-use Rattle.glyphs.proofs.rows_of.Reads as rows-of-reads
 
-mul-glyph : tie.Need-mul-glyph
-mul-glyph c = search needs
+mul-result : tie.Need-mul-result
+mul-result c = search needs
 
-array-copy-out-glyph : tie.Need-array-copy-out-glyph
-array-copy-out-glyph c = search needs
-
-rows-of-requires : tie.Need-rows-of-requires
-rows-of-requires c κs = search needs
+array-copy-out-result : tie.Need-array-copy-out-result
+array-copy-out-result c = search needs
 
 returns : tie.Need-returns
 returns c =
-    let a = c .before .before .before .before .args in
-    c .rows-of .ensures ∙ sym (drawn-special (a .t1) (a .font .now) (a .code) (c .before .before .if1 .taken))
+    let a = c .before .before .before .args in
+    let g = c .before .before .before .good .0 in
+    let e = rows-eight (a .t1) (g .0) (a .code) (omega (arith, g .1 .0 .1)) (g .1 .1) in
+    sym (eight-whole _ e) ∙ sym (drawn-special (a .t1) (a .font .now) (a .code) (c .before .if1 .taken))
 
 mul-eight : tie.Need-mul-eight
 mul-eight c = search needs
@@ -43,9 +42,8 @@ pub draw-spec : {M : Type 1} → statement M
 draw-spec =
     tie.close
     (tie.spec
-    mul-glyph
-    array-copy-out-glyph
-    rows-of-requires
+    mul-result
+    array-copy-out-result
     returns
     mul-eight
     eight-requires
