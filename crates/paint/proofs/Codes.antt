@@ -1,7 +1,7 @@
 -- What a code draws, source by source, and when two drawings are alike.
 use Prim.Native.Nat.{ℕ, _+_, _*_, _<_, _≤_}
-use mathlib.Core.Path.{_≡_, sym, _∙_}
-use mathlib.Core.Bool.{Bool, true, _&&_}
+use mathlib.Core.Path.{_≡_, refl, sym, _∙_}
+use mathlib.Core.Bool.{Bool, true, false, _&&_, _||_}
 use mathlib.Core.List.{List, []}
 use native.Mathlib.Numerals.{add-one}
 use native.Mathlib.Omega.{arith}
@@ -25,9 +25,13 @@ module _ (glyphs : List (List ℕ)) (bytes : List ℕ) (code : ℕ) where
   unfolding codeDrawn sourceOf drawnFrom
   drawn-font h = rw (when-false _ _ _ (le-ltb code 8 h))
 
--- a code that stays and draws from the font draws as it did
-pub stays-alike : (before after : List (List ℕ)) (bytes : List ℕ) (a b : ℕ) → (a =? b) && (8 ≤? b) ≡ true → alike 8 (codeDrawn before bytes a) (codeDrawn after bytes b) ≡ true
-stays-alike before after bytes a b h =
+-- a code that stays and draws from the font, or from the same glyphs, draws as it did
+pub stays-alike : (before after : List (List ℕ)) (bytes : List ℕ) (a b : ℕ) (same : Bool) → (same ≡ true → before ≡ after) → (a =? b) && (same || (8 ≤? b)) ≡ true
+    → alike 8 (codeDrawn before bytes a) (codeDrawn after bytes b) ≡ true
+stays-alike before after bytes a b true k h =
+    let t = both (a =? b) true h in
+    rw (eqb-true a b (t .0), k refl) (alike-self 8 (codeDrawn after bytes b))
+stays-alike before after bytes a b false k h =
     let t = both (a =? b) (8 ≤? b) h in
     let g = leb-true 8 b (t .1) in
     rw (eqb-true a b (t .0), drawn-font before bytes b g, drawn-font after bytes b g) (alike-self 8 (lowSix (eightFrom bytes (8 * b))))

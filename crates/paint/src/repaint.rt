@@ -1,6 +1,6 @@
 // The repaint, from the codes and glyphs before and after, and the picture drawn afresh.
 ghost use mathlib.Core.Path.{_≡_};
-ghost use mathlib.Core.Bool.{true, _&&_};
+ghost use mathlib.Core.Bool.{true, _&&_, _||_};
 ghost use lib.ListN.{length};
 ghost use Rattle.lists.specs.Tests.{_=?_, _≤?_};
 ghost use Rattle.paint.specs.Draw.{drawn, shown, shownBy};
@@ -22,14 +22,14 @@ fn alike8(a: [u8; 8], b: [u8; 8]) -> bool
         & (a[7] == b[7])
 }
 
-// A code that stays and is not special draws as it did: the glyphs need no look.
-fn stays(a: u8, b: u8) -> bool
-    ensures { λ r. ⌜ r ≡ (a =? b) && (8 ≤? b) ⌝ }
+// A code that stays draws as it did where the glyphs are the same, or where it is not special.
+fn stays(a: u8, b: u8, same: bool) -> bool
+    ensures { λ r. ⌜ r ≡ (a =? b) && (same || (8 ≤? b)) ⌝ }
 {
-    (a == b) & (8 <= b)
+    (a == b) & (same | (8 <= b))
 }
 
-// Each cell that draws otherwise is written and listed.
+// Each cell that draws otherwise is written and listed; `same` is true only where the glyphs are.
 fn repaint_cells(
     picture: &mut [u8],
     list: &mut [u8],
@@ -37,9 +37,10 @@ fn repaint_cells(
     new: [u8; 80],
     before: [[u8; 8]; 8],
     after: [[u8; 8]; 8],
+    same: bool,
     font: &[u8],
 ) -> usize
-    requires { ⌜ (length (now picture) ≡ 640) × (length (now list) ≡ 80) ⌝ }
+    requires { ⌜ (length (now picture) ≡ 640) × (length (now list) ≡ 80) × (same ≡ true → before ≡ after) ⌝ }
     ensures { λ r. ⌜ Repaints (shown old before) (shown new after) (now (font .entry)) (now (picture .entry)) (now (list .entry)) r (now (picture .exit)) (now (list .exit)) ⌝ }
 {
     let mut listed: usize = 0;
@@ -47,7 +48,7 @@ fn repaint_cells(
     while cell < 80 {
         let a = old[cell];
         let b = new[cell];
-        if stays(a, b) {
+        if stays(a, b, same) {
             cell += 1;
         } else {
             let was = draw(before, font, a);
@@ -96,14 +97,15 @@ fn repaint_sized(
     let new = after.text;
     let old_glyphs = before.glyphs;
     let new_glyphs = after.glyphs;
-    if same_bytes(&old, &new) {
-        if same_bytes(&old_glyphs, &new_glyphs) {
+    let same = same_bytes(&old_glyphs, &new_glyphs);
+    if same {
+        if same_bytes(&old, &new) {
             return 0;
         }
     }
     let a = glyphs::nested(old_glyphs);
     let b = glyphs::nested(new_glyphs);
-    repaint_cells(picture, list, old, new, a, b, font)
+    repaint_cells(picture, list, old, new, a, b, same, font)
 }
 
 // Each cell that draws otherwise after than before is written and listed; where the picture or the list is not of its size,

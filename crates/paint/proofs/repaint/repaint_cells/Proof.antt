@@ -19,13 +19,13 @@ use Rattle.paint.proofs.repaint.alike8.Reads as alike8-reads
 use Rattle.paint.proofs.repaint.stays.Reads as stays-reads
 
 abbrev Inv-loop : tie.InvT-loop
-Inv-loop picture₀ list₀ before after font old new listed₀ cell₀ picture list listed cell =
+Inv-loop picture₀ list₀ before after kept font old new listed₀ cell₀ picture list listed cell =
     (cell ≤ 80) × (listed ≡ length (changedBelow (shown old before) (shown new after) font cell)) × (listed ≤ cell)
     × (picture ≡ paint (same (shown old before) (shown new after) font) (cellDrawn (shown new after) font) picture₀ cell)
     × (list ≡ front (changedBelow (shown old before) (shown new after) font cell) list₀) × (length picture ≡ length picture₀) × (length list ≡ length list₀)
 
 abbrev μ-loop : tie.MeasureT-loop
-μ-loop picture₀ list₀ before after font old new listed₀ cell₀ picture list listed cell = 80 - cell
+μ-loop picture₀ list₀ before after kept font old new listed₀ cell₀ picture list listed cell = 80 - cell
 
 drew-alike : (c : tie.After-alike8 Inv-loop μ-loop) → same (shown (c .before .before .before .before .before .before .before .before .before .before .args .t3) (c .before .before .before .before .before .before .before .before .before .before .args .before)) (shown (c .before .before .before .before .before .before .before .before .before .before .args .t4) (c .before .before .before .before .before .before .before .before .before .before .args .after)) (c .before .before .before .before .before .before .before .before .before .before .args .font .now) (c .before .before .before .before .before .before .loop .cell) ≡ c .alike8 .result
 drew-alike c = same-is _ _ _ _ ∙ sym (c .alike8 .ensures ∙ rw (c .before .before .draw .ensures, c .before .draw2 .ensures))
@@ -55,7 +55,7 @@ loop-again c =
     let l = c .before .before .before .loop in
     let o = shown (a .t3) (a .before) in
     let n = shown (a .t4) (a .after) in
-    let h = same-is o n (a .font .now) (l .cell) ∙ stays-alike (a .before) (a .after) (a .font .now) (getD (a .t3) (l .cell) 0) (getD (a .t4) (l .cell) 0) (sym (c .before .stays .ensures) ∙ c .if1 .taken) in
+    let h = same-is o n (a .font .now) (l .cell) ∙ stays-alike (a .before) (a .after) (a .font .now) (getD (a .t3) (l .cell) 0) (getD (a .t4) (l .cell) 0) (a .same) (c .before .before .before .before .before .before .before .pre .2) (sym (c .before .stays .ensures) ∙ c .if1 .taken) in
     rw (unlisted o n (a .font .now) (l .cell) h, paint-kept (same o n (a .font .now)) (cellDrawn n (a .font .now)) (a .picture .now) (l .cell) h)
     (omega arith, l .inv .1, omega arith, l .inv .3, l .inv .4, l .inv .5, l .inv .6)
 

@@ -1,4 +1,5 @@
-use mathlib.Core.Path.{_≡_}
+use mathlib.Core.Path.{_≡_, sym, _∙_, ap}
+use Rattle.glyphs.specs.Glyphs.{nestedOf}
 use Rattle.paint.specs.Draw.{shownBy}
 use Rattle.paint.proofs.Turns.{nothing-repainted}
 use native.Mathlib.Omega.{arith}
@@ -32,8 +33,8 @@ same-bytes-requires-2 c κs = search needs
 returns : tie.Need-returns
 returns c =
     let a = c .before .before .before .before .before .before .before .before .before .before .before .before .before .before .before .args in
-    let t : a .before .text ≡ a .after .text = c .before .before .before .before .before .same-bytes .ensures (c .before .before .before .before .if1 .taken) in
-    let g : a .before .glyphs ≡ a .after .glyphs = c .before .same-bytes2 .ensures (c .if2 .taken) in
+    let g : a .before .glyphs ≡ a .after .glyphs = c .before .before .before .before .before .same-bytes .ensures (c .before .before .before .before .if1 .taken) in
+    let t : a .before .text ≡ a .after .text = c .before .same-bytes2 .ensures (c .if2 .taken) in
     rw (← t, ← g) (nothing-repainted (shownBy (a .before)) (a .font .now) (a .picture .now) (a .list .now))
 
 nested-requires : tie.Need-nested-requires
@@ -43,7 +44,9 @@ nested-requires-2 : tie.Need-nested-requires-2
 nested-requires-2 c κs = search needs
 
 repaint-cells-requires : tie.Need-repaint-cells-requires
-repaint-cells-requires c κs = search needs
+repaint-cells-requires c κs =
+    let p = c .before .before .before .before .before .before .before .before .before .before .before .before .before .before .before .pre in
+    (p .0, p .1, λ e. c .before .before .before .nested .ensures ∙ ap nestedOf (c .before .before .before .before .before .same-bytes .ensures e) ∙ sym (c .before .before .nested2 .ensures))
 
 same-length : tie.Need-same-length
 same-length c = search needs
