@@ -46,7 +46,7 @@ step-in-range b p t (stray h) i = i
 step-in-range b p t (done l v) i =
     let e : p .kind % 64 ≡ p .kind = omega arith in
     rw e (effect-in-range (p .kind) (contentOf p) b v i)
-step-in-range b p t (refused v) i = i
+step-in-range b p t (refused l v) i = i
 
 module _ (p : Panel) (piece out : List ℕ) (r : Said) (out′ : List ℕ) (hears : Hears p (scannedBy p piece) out r out′) where
   pub hear-in-range : inRanges p ≡ true → length (p .hold .bytes) ≤ 25 → inRanges (r .panel) ≡ true
@@ -72,7 +72,7 @@ module _ (p : Panel) (piece out : List ℕ) (r : Said) (out′ : List ℕ) (hear
       go a (nothing f) = (refl, refl, refl)
       go a (packet f _ (stray h)) = (refl, refl, refl)
       go a (packet f _ (done l v)) = absurd (omega arith)
-      go a (packet f _ (refused v)) = absurd (omega arith)
+      go a (packet f _ (refused l v)) = absurd (omega arith)
 
   pub hear-refused : {command : ℕ} {reason : Reason} {place : ℕ} → r .answer ≡ Refused command reason place → RepliesError command p out r out′
   unfolding writtenLength written when_then_else_ composedLength composed
@@ -82,6 +82,6 @@ module _ (p : Panel) (piece out : List ℕ) (r : Said) (out′ : List ℕ) (hear
       go a (nothing f) = let z : _≡_ {A = ℕ} 0 1 = cc in absurd (omega arith)
       go a (packet f _ (stray h)) = let z : _≡_ {A = ℕ} 0 1 = cc in absurd (omega arith)
       go a (packet f _ (done l v)) = let z : _≡_ {A = ℕ} 0 1 = cc in absurd (omega arith)
-      go a (packet f _ (refused v)) =
+      go a (packet f _ (refused l v)) =
           let c : scannedBy p piece .packet .kind ≡ command = cc in
           (refl, λ n. let t = fitting out [] n (omega arith) in (when-true _ _ _ t ∙ ap (λ (k : ℕ). front (packetBytes (192 + k) []) out) c, when-true _ _ _ t))

@@ -28,7 +28,7 @@ module _ (b : Body) (p : Packet) where
     stray : 64 ≤ p .kind → Steps (strayed b (p .kind))
     done : p .kind < 64 → verdictOf (p .kind) (contentOf p) ≡ verdicts.Allowed
         → Steps (record { body = carried b p .body; answer = Done (p .kind); replies = true; reply = carried b p .reply })
-    refused : {reason : Reason} {place : ℕ} → verdictOf (p .kind) (contentOf p) ≡ verdicts.Refused reason place
+    refused : {reason : Reason} {place : ℕ} → p .kind < 64 → verdictOf (p .kind) (contentOf p) ≡ verdicts.Refused reason place
         → Steps (record { body = b; answer = Refused (p .kind) reason place; replies = true; reply = packetOf (192 + p .kind) [] })
 
   pub steps : Steps (stepOf b p)
@@ -37,7 +37,7 @@ module _ (b : Body) (p : Packet) where
     where
       go : p .kind < 64 → (v : Verdict) → verdictOf (p .kind) (contentOf p) ≡ v → Steps (ruled v b p)
       go l verdicts.Allowed e = done l e
-      go l (verdicts.Refused reason place) e = refused e
+      go l (verdicts.Refused reason place) e = refused l e
 
 -- a call waits, or it found a packet
 module _ (p : Panel) (s : Scanned) (out : List ℕ) where

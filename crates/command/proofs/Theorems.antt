@@ -8,6 +8,7 @@ use lib.ListN.{length}
 use Rattle.lists.specs.Promise.{Determined}
 use Rattle.lists.specs.Runs.{front}
 use Rattle.lists.proofs.Theorems.{one, and}
+use Rattle.packets.specs.declared.packet.Packet.{Packet}
 use Rattle.packets.specs.Packet.{packetBytes}
 use Rattle.framing.specs.declared.scan.Scanned.{Scanned}
 use Rattle.verdict.specs.declared.verdict.Reason.{Reason}
@@ -17,10 +18,12 @@ use Rattle.panel.specs.declared.state.Body.{Body}
 use Rattle.panel.specs.declared.state.Panel.{Panel}
 use Rattle.panel.specs.Ranges.{inRanges}
 use Rattle.carry.specs.Carry.{effect}
+use Rattle.answers.specs.declared.Answer.{Answer}
 use Rattle.answers.specs.declared.Answer.the-variants.{Waiting, Stray, Refused}
 use Rattle.answers.specs.declared.Said.{Said}
 use Rattle.answers.specs.Answer.{numbersOf}
-use Rattle.command.specs.Hear.{scannedBy, Hears}
+use Rattle.command.specs.Step.{Steps, AnswersTo}
+use Rattle.command.specs.Hear.{scannedBy, Hears, Replies, RepliesRefused}
 use Rattle.command.proofs.Effects.{BodyInRange, effect-in-range}
 use Rattle.command.proofs.HearCalls.{withHold, hear-in-range, hear-silent, hear-refused}
 
@@ -49,6 +52,18 @@ module _ (p : Panel) (piece reply : List ℕ) (r : Said) (reply′ : List ℕ) (
       → (r .panel ≡ withHold p (r .panel .hold)) × (length reply ≡ 26 → (reply′ ≡ front (packetBytes (192 + command) []) reply) × (r .reply ≡ 4))
   refused-changes-only command reason place a = hear-refused p piece reply r reply′ heard a
 
--- For the public function, any two results that its promise allows are equal, the lent buffer included.
+-- For each public function, any two results that its promise allows are equal, the lent buffer included.
+pub answer-to-determined : (p : Packet) → Determined (AnswersTo p)
+answer-to-determined p = one _
+
+pub step-determined : (b : Body) (p : Packet) → Determined (Steps b p)
+step-determined b p = one _
+
 pub hear-determined : (p : Panel) (s : Scanned) (reply : List ℕ) → Determined (λ (x : Said × List ℕ). Hears p s reply (x .0) (x .1))
 hear-determined p s reply = and (one _) (one _)
+
+pub reply-with-determined : (packet : Packet) (reply : List ℕ) → Determined (λ (x : ℕ × List ℕ). Replies packet reply (x .0) (x .1))
+reply-with-determined packet reply = and (one _) (one _)
+
+pub refuse-determined : (answer : Answer) (reply : List ℕ) → Determined (λ (x : ℕ × List ℕ). RepliesRefused answer reply (x .0) (x .1))
+refuse-determined answer reply = and (one _) (one _)

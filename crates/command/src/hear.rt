@@ -1,6 +1,6 @@
 // What a scan of the line found, heard: the packet, if any, carried out or refused, and its reply written.
 ghost use mathlib.Core.Path.{_≡_};
-ghost use Rattle.command.specs.Hear.{writtenLength, written, Hears};
+ghost use Rattle.command.specs.Hear.{writtenLength, written, Hears, Replies, RepliesRefused};
 use answers::Answer;
 use answers::Said;
 use framing::scan::Scanned;
@@ -55,7 +55,24 @@ fn write(replies: bool, reply: Packet, out: &mut [u8]) -> usize
     if !replies {
         return 0;
     }
-    let content = reply.content;
-    let n = lists::at_most(reply.length, 22);
-    packets::packet::compose(out, reply.kind, &content[..n])
+    reply_with(reply, out)
+}
+
+// A done command's reply at the front of the buffer, and its length.
+pub fn reply_with(packet: Packet, reply: &mut [u8]) -> usize
+    ensures { λ r. ⌜ Replies packet (now (reply .entry)) r (now (reply .exit)) ⌝ }
+{
+    let content = packet.content;
+    let n = lists::at_most(packet.length, 22);
+    packets::packet::compose(reply, packet.kind, &content[..n])
+}
+
+// The error reply of a refused packet at the front of the buffer, and its length; to other answers nothing is replied here.
+pub fn refuse(answer: Answer, reply: &mut [u8]) -> usize
+    ensures { λ r. ⌜ RepliesRefused answer (now (reply .entry)) r (now (reply .exit)) ⌝ }
+{
+    match answer {
+        Answer::Refused(code, _, _) => packets::packet::compose(reply, 192 + code % 64, &[]),
+        _ => 0,
+    }
 }

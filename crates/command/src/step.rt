@@ -2,7 +2,7 @@
 ghost use mathlib.Core.Path.{_≡_};
 ghost use mathlib.Core.List.{[]};
 ghost use Rattle.packets.specs.Packet.{packetOf};
-ghost use Rattle.command.specs.Step.{stepOf};
+ghost use Rattle.command.specs.Step.{Steps, AnswersTo};
 use answers::Answer;
 use packets::packet::Packet;
 use panel::state::Body;
@@ -16,37 +16,50 @@ pub struct Stepped {
     pub reply: Packet,
 }
 
-pub fn step(b: Body, p: Packet) -> Stepped
-    ensures { λ r. ⌜ r ≡ stepOf b p ⌝ }
+// What a packet is answered: the panel's state has no part in it.
+pub fn answer_to(p: Packet) -> Answer
+    ensures { λ r. ⌜ AnswersTo p r ⌝ }
 {
     let code = p.kind;
     if 64 <= code {
-        return Stepped {
-            body: b,
-            answer: Answer::Stray(code % 64),
-            replies: false,
-            reply: bare(0),
-        };
+        return Answer::Stray(code % 64);
     }
     let bytes = p.content;
     let n = lists::at_most(p.length, 22);
     match verdict::verdict::verdict_on(code, &bytes[..n]) {
-        Verdict::Allowed => {
+        Verdict::Allowed => Answer::Done(code),
+        Verdict::Refused(reason, place) => Answer::Refused(code, reason, place),
+    }
+}
+
+// What a packet does: a command is carried out only where the answer is done.
+pub fn step(b: Body, p: Packet) -> Stepped
+    ensures { λ r. ⌜ Steps b p r ⌝ }
+{
+    let answer = answer_to(p);
+    match answer {
+        Answer::Done(_) => {
             let c = carry::carry::carry_out(b, p);
             let body = c.body;
             let reply = c.reply;
             Stepped {
                 body,
-                answer: Answer::Done(code),
+                answer,
                 replies: true,
                 reply,
             }
         }
-        Verdict::Refused(reason, place) => Stepped {
+        Answer::Refused(code, _, _) => Stepped {
             body: b,
-            answer: Answer::Refused(code, reason, place),
+            answer,
             replies: true,
             reply: bare(192 + code),
+        },
+        _ => Stepped {
+            body: b,
+            answer,
+            replies: false,
+            reply: bare(0),
         },
     }
 }

@@ -1,45 +1,17 @@
-use Prim.Native.Nat.{ℕ}
-use mathlib.Core.Path.{_≡_, sym, _∙_, ap}
-use lib.ListN.{length, length-take}
-use borrow.Author.Needs.{length-unmapped}
-use borrow.Author.Tests.{lt-ltb, le-ltb}
-use Rattle.lists.proofs.Laws.{when-true, when-false, take-limited}
-use Rattle.verdict.specs.declared.verdict.Verdict.the-variants as verdicts
-use Rattle.verdict.specs.Verdict.{verdictOf}
-use Rattle.carry.specs.Carry.{contentOf}
-use Rattle.command.specs.Step.{ruled, stepOf}
+use mathlib.Core.Path.{sym, _∙_}
 use native.Mathlib.Omega.{arith}
 use borrow.Author.Needs.{needs}
+use Rattle.command.proofs.Parts.{step-done, step-refused, step-else}
 use Rattle.command.proofs.step.step.Statement.{statement}
 use Rattle.command.proofs.step.step.Tie as tie
 use Rattle.command.proofs.step.step.Reads as reads
 use Rattle.command.proofs.step.step.Lts as lts
 use Rattle.carry.proofs.carry.carry_out.Reads as carry-out-reads
+use Rattle.command.proofs.step.answer_to.Reads as answer-to-reads
 use Rattle.command.proofs.step.bare.Reads as bare-reads
-use Rattle.lists.proofs.at_most.Reads as at-most-reads
-use Rattle.verdict.proofs.verdict.verdict_on.Reads as verdict-on-reads
 
-given : (s : tie.Start) → length (s .args .p .content) ≡ 22
-given s = length-unmapped ℕ (s .args .p .content) 22 (s .good .1 .0 .1 .1 .1 .1 .0 .1 .0 .1)
-
-bare-requires : tie.Need-bare-requires
-bare-requires c κs = search needs
-
-returns : tie.Need-returns
-unfolding stepOf
-returns c = rw (c .bare .ensures, when-false _ _ _ (le-ltb _ _ (c .before .if1 .taken)))
-
-at-most-requires : tie.Need-at-most-requires
-at-most-requires c κs = search needs
-
-array-share-prefix-bytes : tie.Need-array-share-prefix-bytes
-array-share-prefix-bytes c = omega (arith, given (c .before .before .before), c .at-most .ensures)
-
-slice-aggregate-verdict-on : tie.Need-slice-aggregate-verdict-on
-slice-aggregate-verdict-on c = simp length-take (omega (arith, given (c .before .before .before .before), c .before .at-most .ensures))
-
-verdict-on-requires : tie.Need-verdict-on-requires
-verdict-on-requires c κs = search needs
+answer-to-requires : tie.Need-answer-to-requires
+answer-to-requires c κs = search needs
 
 enum-told : tie.Need-enum-told
 enum-told c = search needs
@@ -47,48 +19,50 @@ enum-told c = search needs
 carry-out-requires : tie.Need-carry-out-requires
 carry-out-requires c κs = search needs
 
-enum-known-reason : tie.Need-enum-known-reason
-enum-known-reason c = search needs
+enum-known-answer : tie.Need-enum-known-answer
+enum-known-answer c = search needs
 
 add-bare : tie.Need-add-bare
-add-bare c = search needs
+add-bare c =
+    let a = c .before .before .before .before .args in
+    let f = step-refused (a .b) (a .p) (sym (c .before .before .before .answer-to .ensures) ∙ c .before .answer .given .1) .0 in
+    omega arith
+
+bare-requires : tie.Need-bare-requires
+bare-requires c κs = search needs
 
 bare-requires-2 : tie.Need-bare-requires-2
 bare-requires-2 c κs = search needs
 
+returns : tie.Need-returns
+returns c =
+    let a = c .before .before .before .before .before .before .args in
+    let n = c .before .before .before .before .before .answer-to .ensures in
+    rw (c .before .before .carry-out .ensures, n) (sym (step-done (a .b) (a .p) (sym n ∙ c .before .before .before .enum-told .given .1)))
+
 returns-2 : tie.Need-returns-2
-unfolding stepOf ruled
 returns-2 c =
-    let a = c .before .before .before .before .before .before .before .before .before .before .args in
-    let q = take-limited _ (a .p .length) 22 (a .p .content) (c .before .before .before .before .before .before .before .at-most .ensures) (omega (arith, given (c .before .before .before .before .before .before .before .before .before .before))) in
-    let v : verdictOf (a .p .kind) (contentOf (a .p)) ≡ verdicts.Allowed =
-    ap (verdictOf (a .p .kind)) (sym q) ∙ sym (c .before .before .before .before .before .verdict-on .ensures) ∙ c .before .before .before .enum-told .given .1 in
-    rw (c .before .before .carry-out .ensures, when-true _ _ _ (lt-ltb _ _ (c .before .before .before .before .before .before .before .before .before .if1 .left)), v)
+    let a = c .before .before .before .before .before .args in
+    let e = sym (c .before .before .before .before .answer-to .ensures) ∙ c .before .before .answer .given .1 in
+    rw (c .bare .ensures, ← e) (sym (step-refused (a .b) (a .p) e .1))
 
 returns-3 : tie.Need-returns-3
-unfolding stepOf ruled
 returns-3 c =
-    let a = c .before .before .before .before .before .before .before .before .before .args in
-    let q = take-limited _ (a .p .length) 22 (a .p .content) (c .before .before .before .before .before .before .at-most .ensures) (omega (arith, given (c .before .before .before .before .before .before .before .before .before))) in
-    let g = c .before .before .reason .given in
-    let v : verdictOf (a .p .kind) (contentOf (a .p)) ≡ verdicts.Refused (g .0 .0) (g .0 .1 .0) =
-    ap (verdictOf (a .p .kind)) (sym q) ∙ sym (c .before .before .before .before .verdict-on .ensures) ∙ g .1 in
-    rw (c .bare2 .ensures, when-true _ _ _ (lt-ltb _ _ (c .before .before .before .before .before .before .before .before .if1 .left)), v)
+    let a = c .before .before .before .args in
+    let n = c .before .before .answer-to .ensures in
+    rw (c .bare2 .ensures, n) (sym (step-else (a .b) (a .p) (rw n at (c .before .match .keys3))))
 
 pub step-spec : {M : Type 1} → statement M
 step-spec =
     tie.close
     (tie.spec
-    bare-requires
-    returns
-    at-most-requires
-    array-share-prefix-bytes
-    slice-aggregate-verdict-on
-    verdict-on-requires
+    answer-to-requires
     enum-told
     carry-out-requires
-    enum-known-reason
+    enum-known-answer
     add-bare
+    bare-requires
     bare-requires-2
+    returns
     returns-2
     returns-3)
