@@ -1,5 +1,6 @@
 pub mod Counting
 pub mod Filings
+pub mod Parts
 pub mod Seeking
 pub mod Theorems
 pub mod Walks

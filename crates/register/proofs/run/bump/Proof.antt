@@ -44,7 +44,8 @@ use Rattle.register.specs.declared.filing.Refusal.{Refusal}
 use Rattle.register.specs.declared.filing.Filed.{Filed}
 use Rattle.register.specs.Filing.{blank, unfiledMore, filedIn, FilesAt}
 use Rattle.register.proofs.Filings.{files-inside, files-past}
-use Rattle.register.proofs.Walks.{env, locals, in-order, span, frees-all, gives-up, copied, copied-part, sets, leaves-lent, asks-plain, hears, hears-last, gone, meets}
+use Rattle.register.proofs.Parts.{copied-part}
+use Rattle.register.proofs.Walks.{env, locals, in-order, span, frees-all, gives-up, copied, sets, leaves-lent, asks-plain, hears, hears-last, gone, meets}
 use Rattle.register.proofs.filing.Record as T
 use Rattle.register.proofs.filing.Record.Laws as T′
 use Rattle.register.proofs.filing.Refusal as K
@@ -181,12 +182,12 @@ module _ {M : Type 1} (𝓤 : URA M) (H : Heap 𝓤) (A : Atoms 𝓤) (W : Given
         -- [_0; …; the token; what the parameters own]
         move ! (26 ∷ []) $ split ! $ move ! (28 ∷ []) $ fsplit ! $ fsplit ! $ move ! (1 ∷ []) $ fsplit ! $ keep ! (0 ∷ 1 ∷ 4 ∷ span 6 26) $
         -- [obs; the borrow; the token; _0; …]
-        sets ! (of-opd ! (copied-part ! 5 1 refl refl refl)) (init ! 15 refl (tt, record { fits = gn .0 })) $
+        sets ! (of-opd ! (copied-part ! 5 refl tt)) (init ! 15 refl (tt, record { fits = gn .0 })) $
         sets ! (bin ! (copied ! 7 refl) (copied ! 15 refl) tt) (init ! 17 refl (tt, tt)) $
         first ! $ branches ! (copied ! 17 refl)
         (λ less. let l : i < n = ltb→lt i n less in let scaled : i * 8 < 2 ^ 64 = (let m : n * 8 < 2 ^ 63 = gn .1 in omega arith) in
         sets ! (bin ! (copied ! 7 refl) (lit ! tt) (record { fits = scaled })) (init ! 21 refl (tt, record { fits = scaled })) $
-        sets ! (bin ! (copied-part ! 5 0 refl refl refl) (copied ! 21 refl) tt) (init ! 23 refl (tt, tt)) $
+        sets ! (bin ! (copied-part ! 5 refl tt) (copied ! 21 refl) tt) (init ! 23 refl (tt, tt)) $
         rewrite ! 23 (λ (p : ℕ). ‵ (fat fullShare tyPtr l₁₀ 0 (vptr b p))) (sym (place-is 8 o i)) refl $
         opens-slice ! tt T.the-row ys b o $ elem-out ! T.the-row (Is T.the-row) (shows 𝓤 H A T.the-row) (LL.vals T.the-type T′.the-laws)
         (LL.tells T.the-type T′.the-laws) fullShare ys i blank b o l (λ g.
@@ -200,15 +201,15 @@ module _ {M : Type 1} (𝓤 : URA M) (H : Heap 𝓤) (A : Atoms 𝓤) (W : Given
         (λ is. drop ! $
         land ! (from ! (stop !)) (init ! 16 refl (LL.lawful F.the-type F′.the-laws 𝓤 H A W .typed new _ is .0)) $
         sets ! (bin ! (copied ! 10 refl) (lit ! tt) (record { fits = scaled })) (store ! 24 refl (tt, record { fits = scaled })) $
-        sets ! (bin ! (copied-part ! 8 0 refl refl refl) (copied ! 24 refl) tt) (init ! 30 refl (tt, tt)) $
+        sets ! (bin ! (copied-part ! 8 refl tt) (copied ! 24 refl) tt) (init ! 30 refl (tt, tt)) $
         rewrite ! 30 (λ (p : ℕ). ‵ (fat fullShare tyPtr l₁₂ 0 (vptr b p))) (sym (place-is 8 o i)) refl $
-        assigns ! (of-opd ! (copied-part ! 16 0 refl refl refl)) (from ! (hop ! (look ! 30 refl) (stop !)))
+        assigns ! (of-opd ! (copied-part ! 16 refl tt)) (from ! (hop ! (look ! 30 refl) (stop !)))
         (store-raw ! 0 refl (LL.lawful T.the-type T′.the-laws 𝓤 H A W .typed (new .fault) _ (new-fault is) .0)) $
         move ! (1 ∷ []) $ drop ! $ owned ! T.the-row (Is T.the-row) (LL.makes T.the-type T′.the-plain 𝓤 H A) (new .fault) _ (new-fault is) $
         move ! (1 ∷ 0 ∷ []) $ elem-put ! T.the-row fullShare ys i (new .fault) (T′.lowered (new .fault) ∷ []) b o l $
         closes-slice ! tt T.the-row ys (set ys i (new .fault)) (length-set ys i (new .fault)) b o $ move ! (1 ∷ []) $ drop ! $
         -- [obs; the token; _0; …]
-        assigns-last ! (of-opd ! (copied-part ! 12 1 refl refl refl)) (from ! (stop !)) (init ! 18 refl (tt, record { fits = new-unfiled is })) $
+        assigns-last ! (of-opd ! (copied-part ! 12 refl tt)) (from ! (stop !)) (init ! 18 refl (tt, record { fits = new-unfiled is })) $
         finish l₀ l₁ l₂ l₃ l₄ l₅ l₆ l₇ l₈ l₉ l₁₀ l₁₁ l₁₂ (new .unfiled) (set ys i (new .fault)) (holds _) (holds _) (holds _) (holds _) (holds _)
         (files-inside ys k u i l) (new-unfiled is) (length-set ys i (new .fault))))))
         (λ over.

@@ -47,7 +47,8 @@ use Rattle.register.specs.declared.filing.Record.{Record}
 use Rattle.register.specs.declared.filing.Refusal.{Refusal}
 use Rattle.register.specs.Filing.{slot, FilesAt, FilesIn}
 use Rattle.register.proofs.Filings.{files-refused, files-not}
-use Rattle.register.proofs.Walks.{env, locals, in-order, span, frees-all, gives-up, copied, copied-part, sets, leaves-lent, asks-lent, hears, learns-last, gone, meets}
+use Rattle.register.proofs.Parts.{copied-part}
+use Rattle.register.proofs.Walks.{env, locals, in-order, span, frees-all, gives-up, copied, sets, leaves-lent, asks-lent, hears, learns-last, gone, meets}
 use Rattle.register.proofs.filing.Record as T
 use Rattle.register.proofs.filing.Refusal as K
 use Rattle.register.proofs.filing.Refusal.Laws as K′
@@ -189,7 +190,7 @@ module _ {M : Type 1} (𝓤 : URA M) (H : Heap 𝓤) (A : Atoms 𝓤) (W : Given
         first ! $ branches ! (copied ! 15 refl)
         (λ yes-refused.
         sets ! (addr ! (from ! (fld ! refl (hop ! (look-in ! 5 (sub ! 0 refl (whole !))) (stop !))))) (init ! 19 refl (tt, tt)) $
-        sets ! (agg ! (and-then ! (copied ! 19 refl) (and-then ! (copied-part ! 5 1 refl refl refl) (no-more !))))
+        sets ! (agg ! (and-then ! (copied ! 19 refl) (and-then ! (copied-part ! 5 refl tt) (no-more !))))
         (init ! 21 refl (tt, (tt, (record { fits = gn .0 }, tt)))) $
         -- the register is lent as `&`, for a lifetime ν of the call
         lft-new ! tt (λ ν. move ! (1 ∷ 2 ∷ 3 ∷ []) $ opens-slice ! tt T.the-row ys b o $ feqI ! ℕ n n refl $ fjoin ! $
@@ -206,7 +207,7 @@ module _ {M : Type 1} (𝓤 : URA M) (H : Heap 𝓤) (A : Atoms 𝓤) (W : Given
         closes-slice ! tt T.the-row ys ys refl b o $
         -- [obs; the borrow; the token; _0; …]
         sets ! (addr ! (from ! (fld ! refl (hop ! (look-in ! 5 (sub ! 0 refl (whole !))) (stop !))))) (init ! 23 refl (tt, tt)) $
-        sets ! (agg ! (and-then ! (copied ! 23 refl) (and-then ! (copied-part ! 5 1 refl refl refl) (no-more !))))
+        sets ! (agg ! (and-then ! (copied ! 23 refl) (and-then ! (copied-part ! 5 refl tt) (no-more !))))
         (init ! 25 refl (tt, (tt, (record { fits = gn .0 }, tt)))) $
         fjoin ! $ pureI ! (at-slice T.the-row (x γ) (sl ∷ [])) (tt, (tt, tt)) (refl, gn) $ fjoin ! $ move ! (1 ∷ 0 ∷ []) $
         use2 W (raw (Bump 𝓤 H A mem run .pre to-bump)) (goes-bump (is .1)) $

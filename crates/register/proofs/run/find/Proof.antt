@@ -54,7 +54,8 @@ use Rattle.register.specs.declared.filing.Refusal.{Refusal}
 use Rattle.register.specs.declared.search.Seen.{Seen}
 use Rattle.register.specs.Filing.{blank, seenMore, seenAll, slotOf, slot}
 use Rattle.register.proofs.Seeking.{seen-none, seen-next, seen-slot}
-use Rattle.register.proofs.Walks.{env, locals, in-order, span, frees-all, copied, copied-part, sets, asks-plain, hears, gone, meets}
+use Rattle.register.proofs.Parts.{copied-part}
+use Rattle.register.proofs.Walks.{env, locals, in-order, span, frees-all, copied, sets, asks-plain, hears, gone, meets}
 use Rattle.register.proofs.filing.Record as T
 use Rattle.register.proofs.filing.Record.Laws as T′
 use Rattle.register.proofs.filing.Refusal as K
@@ -190,12 +191,12 @@ module _ {M : Type 1} (𝓤 : URA M) (H : Heap 𝓤) (A : Atoms 𝓤) (W : Given
     goes-on : (i : X) → i .0 < n → Sq W (At i) (runs (𝓣 .C) (𝓣 .Λ) En body.turn-1 (anyQ (Turned i)))
     unfolding afterTurn
     goes-on i less =
-        sets ! (of-opd ! (copied-part ! 4 1 refl refl refl)) (init ! 12 refl (tt, record { fits = gn .0 })) $
+        sets ! (of-opd ! (copied-part ! 4 refl tt)) (init ! 12 refl (tt, record { fits = gn .0 })) $
         sets ! (bin ! (copied ! 10 refl) (copied ! 12 refl) tt) (init ! 14 refl (tt, tt)) $
         rewrite ! 14 (λ (t : Bool). ‵ (fat fullShare tyBool l₆ 0 (vbool t))) (lt-ltb (i .0) n less) refl $
         stays ! (copied ! 14 refl) $
         sets ! (bin ! (copied ! 10 refl) (lit ! tt) (record { fits = scaled })) (store ! 12 refl (tt, record { fits = scaled })) $
-        sets ! (bin ! (copied-part ! 4 0 refl refl refl) (copied ! 12 refl) tt) (init ! 16 refl (tt, tt)) $
+        sets ! (bin ! (copied-part ! 4 refl tt) (copied ! 12 refl) tt) (init ! 16 refl (tt, tt)) $
         rewrite ! 16 (λ (p : ℕ). ‵ (fat fullShare tyPtr l₇ 0 (vptr b p))) (sym (place-is 8 o (i .0))) refl $
         looks-slice ! tt T.the-row (Is T.the-row) (shows 𝓤 H A T.the-row) (LL.vals T.the-type T′.the-laws) (LL.tells T.the-type T′.the-laws)
         (LL.copy T.the-type T′.the-copy 𝓤 H A W) ys b o (λ q′.
@@ -229,7 +230,7 @@ module _ {M : Type 1} (𝓤 : URA M) (H : Heap 𝓤) (A : Atoms 𝓤) (W : Given
     ends : (i : X) → i .0 ≡ n → Sq W (At i) (runs (𝓣 .C) (𝓣 .Λ) En body.turn-1 (anyQ (Turned i)))
     unfolding afterTurn
     ends i over =
-        sets ! (of-opd ! (copied-part ! 4 1 refl refl refl)) (init ! 12 refl (tt, record { fits = gn .0 })) $
+        sets ! (of-opd ! (copied-part ! 4 refl tt)) (init ! 12 refl (tt, record { fits = gn .0 })) $
         sets ! (bin ! (copied ! 10 refl) (copied ! 12 refl) tt) (init ! 14 refl (tt, tt)) $
         rewrite ! 14 (λ (t : Bool). ‵ (fat fullShare tyBool l₆ 0 (vbool t))) (le-ltb (i .0) n (omega arith)) refl $
         leaves-loop ! (copied ! 14 refl) $ exec ! (𝓣 .C) (𝓣 .Λ) En body.t-4 (atRet En Post) $

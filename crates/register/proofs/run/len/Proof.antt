@@ -31,7 +31,8 @@ use denote.Triple.Spec.{Meets, tripleOf}
 use denote.Triple.Table.{entered}
 use denote.Triple.Walked.{says, Stays, stay-dropped, walkOf, ends-at, goes-dropped}
 use Rattle.register.specs.declared.filing.Record.{Record}
-use Rattle.register.proofs.Walks.{in-order, frees-all, copied-part, sets, meets}
+use Rattle.register.proofs.Parts.{copied-part}
+use Rattle.register.proofs.Walks.{in-order, frees-all, sets, meets}
 use Rattle.register.proofs.filing.Record as T
 use Rattle.register.proofs.run.len.Key.{name as #len}
 use Rattle.register.proofs.run.len as len
@@ -73,7 +74,7 @@ module _ {M : Type 1} (𝓤 : URA M) (H : Heap 𝓤) (A : Atoms 𝓤) (W : Given
       qed W ((‵ (flft κ q) ⊛ ‵ ftrue) ∷ ‵ (owns (ShrSlice (named 0) κ T.the-row ∷ []) x (sl ∷ [], tt)) ∷ []) ∵ enter ! C Λ code.function (sl ∷ []) _ $
       alloc1 ! (λ l₀. alloc1 ! (λ l₁. alloc0 ! $ move ! (in-order 2) $ params1 ! $ pass1 ! (init ! 2 refl (tt, (tt, (record { fits = gn .0 }, tt)))) $
       pass0 ! $
-      sets ! (of-opd ! (copied-part ! 2 1 refl refl refl)) (init ! 0 refl (tt, record { fits = gn .0 })) $
+      sets ! (of-opd ! (copied-part ! 2 refl tt)) (init ! 0 refl (tt, record { fits = gn .0 })) $
       returns ! (look ! 0 refl) $ frees-all ! (code.function .locals) (l₀ ∷ l₁ ∷ []) (holds (vint w64 n) ∷ holds sl ∷ []) $ split ! $
       move ! (1 ∷ 2 ∷ []) $ drop ! $ drop ! $ by ! exits))
 

@@ -20,7 +20,7 @@ use contract.Monad.{Fun}
 use contract.Running.{givenOf, tables, tablesOf}
 use types.Kit.{Given, ‵, raw, _⊛_, some, later, ⋆, _$_, _∵_, !, qed, by, move, keep, drop, group, use0, use1, use2, split, join, pick, fsplit, fjoin, feqL, feqI, suffices, frame, await, done}
 use types.Part.{whole, sub, look-in, agg}
-use types.Run.{look, init, stop, hop, fld, from, load, addr, and-then, no-more, land, returns, enter, alloc1, alloc0, params1, pass1, pass0}
+use types.Run.{look, init, stop, hop, fld, from, addr, and-then, no-more, land, returns, enter, alloc1, alloc0, params1, pass1, pass0}
 use types.Share.{arr-parts}
 use types.Tokens.{lft-new, lft-end, lent-back}
 use sound.WpLaws.{FmC, fmOf}
@@ -52,7 +52,8 @@ use Rattle.answers.specs.declared.Said.{Said}
 use Rattle.picture.specs.Calls.{Lent, lent}
 use Rattle.whole.specs.declared.line.Heard.{Heard}
 use Rattle.whole.specs.Whole.{withUnfiled, HearsAll, LineCall}
-use Rattle.register.proofs.Walks.{in-order, span, frees-all, copied, copied-part, sets, asks-plain, asks-lent, hears, learns, meets}
+use Rattle.register.proofs.Parts.{copied-part}
+use Rattle.register.proofs.Walks.{in-order, span, frees-all, copied, sets, asks-plain, asks-lent, hears, learns, meets}
 use Rattle.whole.proofs.LineCalls.{put-together}
 use Rattle.panel.proofs.state.Panel as P
 use Rattle.panel.proofs.state.Panel.Laws as P′
@@ -247,7 +248,7 @@ module _ {M : Type 1} (𝓤 : URA M) (H : Heap 𝓤) (A : Atoms 𝓤) (W : Given
         move ! (15 ∷ 14 ∷ 13 ∷ 12 ∷ 11 ∷ 8 ∷ 7 ∷ 6 ∷ 5 ∷ 4 ∷ []) $ group ! 10 $ use1 W (raw (Hear 𝓤 H A mem run .pre to-hear)) goes-hear $ keep ! (1 ∷ 2 ∷ 5 ∷ 0 ∷ span 7 42) $
         -- [obs; the borrow; the token; what `hear` asks; _0; …]
         sets ! (addr ! (from ! (fld ! refl (hop ! (look-in ! 18 (sub ! 0 refl (whole !))) (stop !))))) (init ! 26 refl (tt, tt)) $
-        sets ! (agg ! (and-then ! (copied ! 26 refl) (and-then ! (copied-part ! 18 1 refl refl refl) (no-more !)))) (init ! 28 refl (tt, (tt, (record { fits = gn .0 }, tt)))) $
+        sets ! (agg ! (and-then ! (copied ! 26 refl) (and-then ! (copied-part ! 18 refl tt) (no-more !)))) (init ! 28 refl (tt, (tt, (record { fits = gn .0 }, tt)))) $
         -- the register is lent as `&`, for a lifetime ν of the call
         lft-new ! tt (λ ν. move ! (1 ∷ 2 ∷ 3 ∷ []) $ opens-slice ! tt T.the-row ys b o $ feqI ! ℕ n n refl $ fjoin ! $
         use1 W (later (some (λ (δ : GName). ‵ (ShrSlice (named 0) (ν ∷ []) T.the-row .own (x δ) (slr ∷ [])) ⊛ ‵ (flent (ν ∷ []) (arr-parts (shares T.the-row) n .part fullShare ys b o))))) (lends-shr-slice 𝓤 H A W T.the-row (named 0) (ν ∷ []) fullShare ys b o gn) $ await ! tt $ pick ! (λ δ. split ! $
@@ -260,11 +261,11 @@ module _ {M : Type 1} (𝓤 : URA M) (H : Heap 𝓤) (A : Atoms 𝓤) (W : Given
         use1 W (‵ (flft (ν ∷ []) fullShare)) (fst∗ 𝓤 _ (emp 𝓤)) $ lft-end ! tt $ lent-back ! tt $ fsplit ! $ drop ! $ closes-slice ! tt T.the-row ys ys refl b o $
         -- [obs; the borrow; the token; what `hear` asks; _0; …]
         sets ! (addr ! (from ! (fld ! refl (hop ! (look-in ! 10 (sub ! 0 refl (whole !))) (stop !))))) (init ! 30 refl (tt, tt)) $
-        sets ! (agg ! (and-then ! (copied ! 30 refl) (and-then ! (copied-part ! 10 1 refl refl refl) (no-more !)))) (init ! 32 refl (tt, (tt, (record { fits = g₁ .0 }, tt)))) $
+        sets ! (agg ! (and-then ! (copied ! 30 refl) (and-then ! (copied-part ! 10 refl tt) (no-more !)))) (init ! 32 refl (tt, (tt, (record { fits = g₁ .0 }, tt)))) $
         sets ! (addr ! (from ! (fld ! refl (hop ! (look-in ! 14 (sub ! 0 refl (whole !))) (stop !))))) (init ! 34 refl (tt, tt)) $
-        sets ! (agg ! (and-then ! (copied ! 34 refl) (and-then ! (copied-part ! 14 1 refl refl refl) (no-more !)))) (init ! 36 refl (tt, (tt, (record { fits = g₃ .0 }, tt)))) $
+        sets ! (agg ! (and-then ! (copied ! 34 refl) (and-then ! (copied-part ! 14 refl tt) (no-more !)))) (init ! 36 refl (tt, (tt, (record { fits = g₃ .0 }, tt)))) $
         sets ! (addr ! (from ! (fld ! refl (hop ! (look-in ! 16 (sub ! 0 refl (whole !))) (stop !))))) (init ! 38 refl (tt, tt)) $
-        sets ! (agg ! (and-then ! (copied ! 38 refl) (and-then ! (copied-part ! 16 1 refl refl refl) (no-more !)))) (init ! 40 refl (tt, (tt, (record { fits = g₄ .0 }, tt)))) $
+        sets ! (agg ! (and-then ! (copied ! 38 refl) (and-then ! (copied-part ! 16 refl tt) (no-more !)))) (init ! 40 refl (tt, (tt, (record { fits = g₄ .0 }, tt)))) $
         move ! (3 ∷ []) $
         calls-at ! fm (Hear 𝓤 H A mem run) known-hear to-hear (and-then ! (copied ! 6 refl) (and-then ! (copied ! 8 refl) (and-then ! (copied ! 32 refl) (and-then ! (copied ! 12 refl) (and-then ! (copied ! 36 refl) (and-then ! (copied ! 40 refl) (and-then ! (copied ! 20 refl) (no-more !)))))))) (λ v₁.
         learns ! hear.ended (hear.clauses 𝓤 H A mem run) to-hear (LL.val O.the-type O′.the-laws) (LL.tells O.the-type O′.the-laws) (λ ω ws. HearsAll p l ω (ws .1 .1 .0) (ws .1 .1 .1 .1 .0) (ws .1 .1 .1 .1 .1 .0)) (λ ω ws. id⊢ 𝓤 _) v₁ (λ ω ws e is₁.
@@ -277,17 +278,15 @@ module _ {M : Type 1} (𝓤 : URA M) (H : Heap 𝓤) (A : Atoms 𝓤) (W : Given
         let filing = LL.owed F.the-type F′.the-laws (ω .filing) _ (parts .1 .0) in
         let panel = LL.owed P.the-type P′.the-laws (ω .said .panel) _ (LL.owed S.the-type S′.the-laws (ω .said) _ (parts .0) .0) in
         sets ! (addr ! (from ! (fld ! refl (hop ! (look-in ! 21 (sub ! 0 refl (whole !))) (stop !))))) (init ! 45 refl (tt, tt)) $
-        sets ! (agg ! (and-then ! (copied ! 45 refl) (and-then ! (copied-part ! 21 1 refl refl refl) (no-more !)))) (init ! 47 refl (tt, (tt, (record { fits = gn .0 }, tt)))) $
+        sets ! (agg ! (and-then ! (copied ! 45 refl) (and-then ! (copied-part ! 21 refl tt) (no-more !)))) (init ! 47 refl (tt, (tt, (record { fits = gn .0 }, tt)))) $
         fjoin ! $ pureI ! (at-slice T.the-row (x γ) (slr ∷ [])) (tt, (tt, tt)) (refl, gn) $ fjoin ! $ move ! (1 ∷ 0 ∷ []) $ use2 W (raw (File 𝓤 H A mem run .pre (to-file ω))) (goes-file ω (filing .1 .0) (panel .1 .1 .0 .1)) $
-        calls-at ! fm (File 𝓤 H A mem run) known-file (to-file ω) (and-then ! (copied ! 45 refl) (and-then ! (load ! (from ! (fld ! refl (fld ! refl (stop !)))) (look-in ! 23 (sub ! 0 refl (sub ! 1 refl (whole !)))))
-        (and-then ! (load ! (from ! (fld ! refl (fld ! refl (stop !)))) (look-in ! 23 (sub ! 1 refl (sub ! 1 refl (whole !)))))
-        (and-then ! (load ! (from ! (fld ! refl (fld ! refl (fld ! refl (stop !))))) (look-in ! 23 (sub ! 2 refl (sub ! 0 refl (sub ! 0 refl (whole !)))))) (no-more !))))) (λ v₂.
+        calls-at ! fm (File 𝓤 H A mem run) known-file (to-file ω) (and-then ! (copied ! 45 refl) (and-then ! (copied-part ! 23 refl tt) (and-then ! (copied-part ! 23 refl tt) (and-then ! (copied-part ! 23 refl tt) (no-more !))))) (λ v₂.
         learns ! file.ended (file.clauses 𝓤 H A mem run) (to-file ω) (vint w32) (uint-tells w32) (λ m zs. FilesIn ys (ω .filing .refused) (ω .filing .key) (ω .said .panel .unfiled) m (zs .0)) (λ m zs. id⊢ 𝓤 _) v₂ (λ m zs f is₂.
         land ! (from ! (stop !)) (init ! 26 refl (tt, record { fits = is₂ .1 })) $
         move ! (1 ∷ []) $ fsplit ! $ fsplit ! $ move ! (1 ∷ []) $ feqL ! (λ len₅. keep ! (3 ∷ 2 ∷ 4 ∷ 5 ∷ 6 ∷ 0 ∷ span 7 42) $
         -- [the tokens; the register's token; the last lists of picture, list, reply and register; _0; …]
         use0 W (raw (With 𝓤 H A mem run .pre (to-with ω m))) (asks-plain 𝓤 H A (S.the-row ∷ u32 ∷ []) (LL.makes S.the-type S′.the-plain 𝓤 H A, (uint-makes 𝓤 H A W w32, tt)) (with-arg ω m) _ (parts .0, ((refl, is₂ .1), tt)) _ (id⊢ 𝓤 _)) $
-        calls-at ! fm (With 𝓤 H A mem run) known-with (to-with ω m) (and-then ! (copied-part ! 25 0 refl refl refl) (and-then ! (copied ! 27 refl) (no-more !))) (λ v₃.
+        calls-at ! fm (With 𝓤 H A mem run) known-with (to-with ω m) (and-then ! (copied-part ! 25 refl tt) (and-then ! (copied ! 27 refl) (no-more !))) (λ v₃.
         hears ! with-unfiled.ended (with-unfiled.clauses 𝓤 H A mem run) (to-with ω m) (LL.val S.the-type S′.the-laws) (LL.tells S.the-type S′.the-laws) (withUnfiled (ω .said) m) (λ r e₃. id⊢ 𝓤 _) v₃ (λ is₃.
         land ! (from ! (stop !)) (init ! 7 refl (LL.lawful S.the-type S′.the-laws 𝓤 H A W .typed (withUnfiled (ω .said) m) _ is₃ .0)) $ drop ! $
         returns ! (look ! 6 refl) $ move ! (span 6 42) $ frees-all ! (code.function .locals) (l₀ ∷ l₁ ∷ l₂ ∷ l₃ ∷ l₄ ∷ l₅ ∷ l₆ ∷ l₇ ∷ l₈ ∷ l₉ ∷ l₁₀ ∷ l₁₁ ∷ l₁₂ ∷ l₁₃ ∷ l₁₄ ∷ l₁₅ ∷ l₁₆ ∷ l₁₇ ∷ l₁₈ ∷ l₁₉ ∷ l₂₀ ∷ [])
