@@ -17,7 +17,7 @@ use Rattle.paint.proofs.Changes.{repainted}
 use Rattle.whole.specs.Whole.{LineCall}
 use Rattle.sequences.specs.Run.{Call, line, key, pin, World, Makes, Runs, done, more, Afresh}
 use Rattle.sequences.specs.Story as story
-use Rattle.sequences.specs.Story.{Other, Answers, presses, moves, Entry, Hears, Others, none, one, Story, last, withPanel}
+use Rattle.sequences.specs.Story.{Other, Answers, presses, moves, Entry, LineHears, Others, none, one, Story, last, withPanel}
 
 abbrev shows : Said → Settings
 shows s = s .panel .body .live
@@ -57,7 +57,7 @@ module _ (font : List ℕ) where
   still-afresh done h = h
   still-afresh (more {c} {u = u} {v = v} n m r) h = still-afresh r (one-call c u v n m h)
 
-  hears-afresh : {w v : World} {piece out : List ℕ} {r : Said} {out′ : List ℕ} → Hears font w piece out r out′ v → Afresh font w → Afresh font v
+  hears-afresh : {w v : World} {piece out : List ℕ} {r : Said} {out′ : List ℕ} → LineHears font w piece out r out′ v → Afresh font w → Afresh font v
   hears-afresh {w} {v} {piece} {out} {r} {out′} m h =
       line-keeps (w .panel) (lent piece (w .picture) font (m .list) out (length (w .register))) (w .register) r (v .picture) (m .list′) out′ (v .register) (m .called) h
       ∙ sym (ap (λ (x : Panel). drawn (shownBy (x .body .live)) font) (m .panel))

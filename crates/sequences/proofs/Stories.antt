@@ -37,7 +37,7 @@ use Rattle.paint.proofs.Changes.{length-painted}
 use Rattle.whole.specs.Whole.{filesAfter, withUnfiled}
 use Rattle.whole.proofs.Outcomes.{heard-leaves, passed, said-accepted}
 use Rattle.sequences.specs.Run.{World, filesOf}
-use Rattle.sequences.specs.Story.{Other, Answers, Entry, packet, other, replied, noted, Hears, Others, none, one, Story, last, line, call, places, withPanel}
+use Rattle.sequences.specs.Story.{Other, Answers, Entry, packet, other, replied, noted, LineHears, Others, none, one, Story, last, line, call, places, withPanel}
 use Rattle.sequences.proofs.Files.{line-files}
 use Rattle.sequences.proofs.OtherCalls.{blank, alike, made-by, made-in-range}
 use Rattle.sequences.proofs.Played.{Item, found, made, written-bytes, entryOf, bodyAfter, played, bodyAtEnd, played-append, end-append, packetsAmong, found-among, same-played}
@@ -96,7 +96,7 @@ filed-noted r out entries f = go (numbersOf (r .answer) .number =? 1) refl
         rw (when-true _ ([]) (packet (r .answer) (replied r out) ∷ []) e) (ap (filedBy entries) (sym (when-false _ _ _ (rw n refl))))
     go false e = rw (when-false _ ([]) (packet (r .answer) (replied r out) ∷ []) e)
 
-module _ (font : List ℕ) (w v : World) (piece out : List ℕ) (r : Said) (out′ : List ℕ) (hears : Hears font w piece out r out′ v) where
+module _ (font : List ℕ) (w v : World) (piece out : List ℕ) (r : Said) (out′ : List ℕ) (hears : LineHears font w piece out r out′ v) where
   abbrev l : Lent
   l = lent piece (w .picture) font (hears .list) out (length (w .register))
 
@@ -310,7 +310,7 @@ module _ (font : List ℕ) (w : World) (ready : Ready font w) (piece : List ℕ)
   abbrev next : World
   next = record { panel = says .panel; picture = linePicture (w .panel) lends; register = files .register }
 
-  lets-hear : Hears font w piece blank says (lineReply (w .panel) lends) next
+  lets-hear : LineHears font w piece blank says (lineReply (w .panel) lends) next
   lets-hear =
       record {
         list = replicate 80 0;

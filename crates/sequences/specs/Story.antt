@@ -27,9 +27,9 @@ pub data Answers : Other → Panel → List ℕ → Said → List ℕ → Type 0
   presses : {number : ℕ} {down : Bool} {p : Panel} {out : List ℕ} {r : Said} {out′ : List ℕ} → Presses p number down out r out′ → Answers (key number down) p out r out′
   moves : {number : ℕ} {high : Bool} {p : Panel} {out : List ℕ} {r : Said} → Moves p number high r → Answers (pin number high) p out r out
 
--- Hears font w piece out r out′ v: a line call on the piece, not refused by number, takes the world w to v, says r and leaves
--- the reply buffer out as out′
-pub record Hears (font : List ℕ) (w : World) (piece out : List ℕ) (r : Said) (out′ : List ℕ) (v : World) : Type 0 where
+-- LineHears font w piece out r out′ v: a line call on the piece, not refused by number, takes the world w to v, says r and
+-- leaves the reply buffer out as out′
+pub record LineHears (font : List ℕ) (w : World) (piece out : List ℕ) (r : Said) (out′ : List ℕ) (v : World) : Type 0 where
   pub list : List ℕ
   pub list′ : List ℕ
   pub called : LineCall (w .panel) (lent piece (w .picture) font list out (length (w .register))) (w .register) r (v .picture) list′ out′ (v .register)
@@ -62,10 +62,10 @@ pub data Others : Panel → List Entry → Panel → Type 0 where
 -- them and each lent a reply buffer of 26 bytes, take the world w to v
 pub data Story (font : List ℕ) : World → List ℕ → List Entry → World → Type 0 where
   -- the last call on the line: all is taken and the answer is waiting
-  last : {w v : World} {bytes : List ℕ} (out : List ℕ) {r : Said} {out′ : List ℕ} {entries : List Entry} {q : Panel} → Hears font w bytes out r out′ v
+  last : {w v : World} {bytes : List ℕ} (out : List ℕ) {r : Said} {out′ : List ℕ} {entries : List Entry} {q : Panel} → LineHears font w bytes out r out′ v
       → r .taken ≡ length bytes → r .answer ≡ Waiting → Others (v .panel) entries q → Story font w bytes entries (withPanel v q)
   -- a call on a piece, and then what comes of the bytes that it has not taken and those behind
-  line : {w u v : World} (piece more out : List ℕ) {r : Said} {out′ : List ℕ} {entries : List Entry} → Hears font w piece out r out′ u
+  line : {w u v : World} (piece more out : List ℕ) {r : Said} {out′ : List ℕ} {entries : List Entry} → LineHears font w piece out r out′ u
       → Story font u (drop (r .taken) (piece ++ more)) entries v → Story font w (piece ++ more) (noted r out′ ++ entries) v
   -- another call
   call : {w v : World} {bytes : List ℕ} {c : Other} {out : List ℕ} {r : Said} {out′ : List ℕ} {entries : List Entry} → length out ≡ 26 → Answers c (w .panel) out r out′
