@@ -112,7 +112,7 @@ stepped-below : (b : Body) (k : Packet) → numbersOf (stepOf b k .answer) .numb
 unfolding stepOf numbersOf
 stepped-below b k = when-either (λ (t : Stepped). numbersOf (t .answer) .number < 10) _ _ _ (λ _. ruled-below (verdictOf (k .kind) (contentOf k)) b k) (λ _. lit< tt)
 
-heard-below : (p : Panel) (l : Lent) → numbersOf (heard p l .answer) .number < 10
+pub heard-below : (p : Panel) (l : Lent) → numbersOf (heard p l .answer) .number < 10
 unfolding heardBy numbersOf
 heard-below p l = when-either (λ (s : Said). numbersOf (s .answer) .number < 10) _ _ _ (λ _. stepped-below (p .body) (scannedBy p (l .piece) .packet)) (λ _. lit< tt)
 

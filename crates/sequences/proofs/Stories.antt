@@ -34,8 +34,9 @@ use Rattle.command.proofs.Heard.{Steps, Heard}
 use Rattle.command.proofs.HearCalls.{hear-in-range}
 use Rattle.picture.specs.Calls.{Lent, lent, lineChecks, altered, withListed, lineSaid, linePicture, lineList, lineReply}
 use Rattle.paint.proofs.Changes.{length-painted}
+use Rattle.picture.proofs.LineCalls.{heard-below}
 use Rattle.whole.specs.Whole.{filesAfter, withUnfiled}
-use Rattle.whole.proofs.Outcomes.{heard-leaves, passed, said-accepted}
+use Rattle.whole.proofs.Outcomes.{passed, said-accepted}
 use Rattle.sequences.specs.Run.{World, filesOf}
 use Rattle.sequences.specs.Story.{Other, Answers, Entry, packet, other, replied, noted, LineHears, Others, none, one, Story, last, line, call, places, withPanel}
 use Rattle.sequences.proofs.Files.{line-files}
@@ -317,7 +318,7 @@ module _ (font : List ℕ) (w : World) (ready : Ready font w) (piece : List ℕ)
         list′ = lineList (w .panel) lends;
         called = (refl, refl, refl, refl, refl);
         panel = refl;
-        accepted = rw (accepted-by (lineChecks (w .panel) lends) let-pass _ _) (heard-leaves (w .panel) lends .0);
+        accepted = rw (accepted-by (lineChecks (w .panel) lends) let-pass _ _) (heard-below (w .panel) lends);
       }
 
   still-ready : Ready font next

@@ -23,41 +23,41 @@ use Rattle.command.specs.declared.step.Stepped.{Stepped}
 use Rattle.answers.specs.Answer.{numbersOf, filingOf, refusedCall}
 use Rattle.command.specs.Step.{ruled, stepOf}
 use Rattle.command.specs.Hear.{scannedBy, written, heardBy, replyBy}
-use Rattle.answers.proofs.Checks.{Pass, ByNumber, refused-by, accepted-by, call-refused, call-passed}
+use Rattle.answers.proofs.Checks.{Pass, refused-by, accepted-by, call-refused, call-passed}
 use Rattle.paint.specs.Draw.{shownBy}
 use Rattle.paint.specs.Repaint.{Repaints}
 use Rattle.picture.specs.Calls.{Lent, lineChecks, heard, shownBefore, shownAfter, altered, withListed, lineSaid}
 use Rattle.paint.proofs.Turns.{nothing-repainted}
+use Rattle.picture.proofs.LineCalls.{by-number, heard-below}
 use Rattle.whole.specs.Whole.{withUnfiled, LineCall}
 
 abbrev pub number : Answer → ℕ
 number a = numbersOf a .number
 
--- a packet answers below 10; only a done one changes the body, and only a done or a refused one replies
-abbrev pub StepLeaves : Body → Stepped → Type 0
-StepLeaves b t = (number (t .answer) < 10) × (number (t .answer) ≢ 3 → t .body ≡ b) × (number (t .answer) ≤ 2 → t .replies ≡ false)
+-- only a done packet changes the body, and only a done or a refused one replies
+abbrev StepLeaves : Body → Stepped → Type 0
+StepLeaves b t = (number (t .answer) ≢ 3 → t .body ≡ b) × (number (t .answer) ≤ 2 → t .replies ≡ false)
 
 ruled-leaves : (v : Verdict) (b : Body) (packet : Packet) → StepLeaves b (ruled v b packet)
 unfolding ruled numbersOf
-ruled-leaves verdicts.Allowed b packet = (omega arith, λ h. absurd (h refl), λ h. absurd (omega arith))
-ruled-leaves (verdicts.Refused reason place) b packet = (omega arith, λ h. refl, λ h. absurd (omega arith))
+ruled-leaves verdicts.Allowed b packet = (λ h. absurd (h refl), λ h. absurd (omega arith))
+ruled-leaves (verdicts.Refused reason place) b packet = (λ h. refl, λ h. absurd (omega arith))
 
 step-leaves : (b : Body) (packet : Packet) → StepLeaves b (stepOf b packet)
 unfolding stepOf numbersOf
-step-leaves b packet = when-either (StepLeaves b) _ _ _ (λ _. ruled-leaves _ b packet) (λ _. (omega arith, λ _. refl, λ _. refl))
+step-leaves b packet = when-either (StepLeaves b) _ _ _ (λ _. ruled-leaves _ b packet) (λ _. (λ _. refl, λ _. refl))
 
 -- the same of a piece that is heard
-abbrev pub HearLeaves : Panel → Scanned → List ℕ → Type 0
+abbrev HearLeaves : Panel → Scanned → List ℕ → Type 0
 HearLeaves p s out =
-    (number (heardBy p s out .answer) < 10) × (number (heardBy p s out .answer) ≢ 3 → heardBy p s out .panel .body ≡ p .body)
-    × (number (heardBy p s out .answer) ≤ 2 → replyBy p s out ≡ out)
+    (number (heardBy p s out .answer) ≢ 3 → heardBy p s out .panel .body ≡ p .body) × (number (heardBy p s out .answer) ≤ 2 → replyBy p s out ≡ out)
     × (heardBy p s out .panel .unfiled ≡ p .unfiled)
 
 hear-leaves : (p : Panel) (s : Scanned) (out : List ℕ) (found : Bool) → s .found ≡ found → HearLeaves p s out
 unfolding heardBy replyBy when_then_else_ numbersOf written
 hear-leaves p s out true e =
-    let t = step-leaves (p .body) (s .packet) in rw e (t .0, t .1, λ h. rw (t .2 h), refl)
-hear-leaves p s out false e = rw e (omega arith, λ _. refl, λ _. refl, refl)
+    let t = step-leaves (p .body) (s .packet) in rw e (t .0, λ h. rw (t .1 h), refl)
+hear-leaves p s out false e = rw e (λ _. refl, λ _. refl, refl)
 
 -- only a refused packet is filed
 not-filed : (a : Answer) → number a ≢ 4 → (f : Files) → filedIf (filingOf a .refused) (filingOf a .key) f ≡ f
@@ -72,7 +72,7 @@ module _ (p : Panel) (l : Lent) where
   abbrev accepted : Said
   accepted = withListed (heard p l) (length (altered p l))
 
-  pub heard-leaves : HearLeaves p (scannedBy p (l .piece)) (l .reply)
+  heard-leaves : HearLeaves p (scannedBy p (l .piece)) (l .reply)
   heard-leaves = hear-leaves p (scannedBy p (l .piece)) (l .reply) _ refl
 
   -- where the body is as it came, nothing is listed and nothing is painted
@@ -80,10 +80,6 @@ module _ (p : Panel) (l : Lent) where
   unpainted e =
       subst (λ (b : Body). Repaints (shownBefore p) (shownBy (b .live)) (l .font) (l .picture) (l .list) 0 (l .picture) (l .list)) (sym e)
       (nothing-repainted (shownBefore p) (l .font) (l .picture) (l .list))
-
-  by-number : ByNumber (lineChecks p l)
-  unfolding numbersOf
-  by-number = (omega arith, (omega arith, (omega arith, (omega arith, (omega arith, (omega arith, (omega arith, tt)))))))
 
   module _ (register : List Record) (r : Said) (picture′ list′ reply′ : List ℕ) (register′ : List Record) (called : LineCall p l register r picture′ list′ reply′ register′) where
     same-number : number (r .answer) ≡ number (s .answer)
@@ -98,7 +94,7 @@ module _ (p : Panel) (l : Lent) where
     pub nothing-changed : 10 ≤ number (r .answer) → (r ≡ refusedCall p (r .answer)) × (picture′ ≡ l .picture) × (list′ ≡ l .list) × (reply′ ≡ l .reply) × (register′ ≡ register)
     nothing-changed h =
         let k : 10 ≤ number (s .answer) = omega (arith, same-number) in
-        let f = call-refused p (lineChecks p l) accepted s refl (heard-leaves .0) k .1 in
+        let f = call-refused p (lineChecks p l) accepted s refl (heard-below p l) k .1 in
         let u = unfiled-as-said (λ e. absurd (omega arith)) in
         let z = u .0 ∙ ap (λ (t : Said). withUnfiled t (t .panel .unfiled)) (refused-by f (refusedCall p) accepted) in (
           z ∙ ap (refusedCall p) (sym (ap (λ (t : Said). t .answer) z)),
@@ -110,7 +106,7 @@ module _ (p : Panel) (l : Lent) where
 
     module _ (below : number (r .answer) < 10) where
       pub passed : Pass (lineChecks p l)
-      passed = call-passed p (lineChecks p l) accepted s refl by-number (omega (arith, same-number))
+      passed = call-passed p (lineChecks p l) accepted s refl (by-number p l) (omega (arith, same-number))
 
       pub said-accepted : s ≡ accepted
       said-accepted = accepted-by (lineChecks p l) passed _ _
@@ -121,7 +117,7 @@ module _ (p : Panel) (l : Lent) where
       -- accepted and not done
       pub body-kept : number (r .answer) ≢ 3 → (r .panel .body ≡ p .body) × (r .listed ≡ 0) × (picture′ ≡ l .picture) × (list′ ≡ l .list)
       body-kept h =
-          let b = heard-leaves .1 (λ e. h (heard-number ∙ e)) in
+          let b = heard-leaves .0 (λ e. h (heard-number ∙ e)) in
           let d = unpainted b in (
             ap (λ (t : Said). t .panel .body) (called .0) ∙ ap (λ (t : Said). t .panel .body) said-accepted ∙ b,
             ap (λ (t : Said). t .listed) (called .0) ∙ ap (λ (t : Said). t .listed) said-accepted ∙ sym (d .0),
@@ -133,14 +129,14 @@ module _ (p : Panel) (l : Lent) where
       pub unfiled-kept : number (r .answer) ≤ 2 → (r .panel .unfiled ≡ p .unfiled) × (reply′ ≡ l .reply) × (register′ ≡ register)
       unfiled-kept h =
           let u = unfiled-as-said (λ e. absurd (omega (arith, same-number))) in (
-            ap (λ (t : Said). t .panel .unfiled) (u .0) ∙ ap (λ (t : Said). t .panel .unfiled) said-accepted ∙ heard-leaves .3,
-            called .3 ∙ accepted-by (lineChecks p l) passed _ _ ∙ heard-leaves .2 (omega (arith, heard-number)),
+            ap (λ (t : Said). t .panel .unfiled) (u .0) ∙ ap (λ (t : Said). t .panel .unfiled) said-accepted ∙ heard-leaves .2,
+            called .3 ∙ accepted-by (lineChecks p l) passed _ _ ∙ heard-leaves .1 (omega (arith, heard-number)),
             u .1,
           )
 
 -- hearing leaves the unfiled number to the register
 pub heard-unfiled : (p : Panel) (l : Lent) → heard p l .panel .unfiled ≡ p .unfiled
-heard-unfiled p l = heard-leaves p l .3
+heard-unfiled p l = heard-leaves p l .2
 
 -- what is heard is counted as it was scanned
 pub heard-counts : (p : Panel) (s : Scanned) (out : List ℕ) → (heardBy p s out .taken ≡ s .taken) × (heardBy p s out .checked ≡ s .checked)
