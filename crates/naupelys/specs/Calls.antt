@@ -1,7 +1,7 @@
 -- What the four calls of include/naupelys.h promise of the number that they return and of each byte lent to them.
 use Prim.Native.Nat.{ℕ, _+_, _*_}
 use mathlib.Core.Path.{_≡_}
-use mathlib.Core.Bool.{Bool}
+use mathlib.Core.Bool.{Bool, true}
 use mathlib.Core.List.{List}
 use lib.ListN.{length, getD}
 use Rattle.lists.specs.Tests.{when_then_else_, _<?_, _=?_}
@@ -15,9 +15,14 @@ use Rattle.answers.specs.declared.Said.{Said}
 use Rattle.answers.specs.Answer.{numbersOf, filingOf}
 use Rattle.events.specs.Keys.{keySaid, keyReply}
 use Rattle.events.specs.Pins.{pinSaid}
+use Rattle.carry.specs.Carry.{carried}
+use Rattle.command.specs.Hear.{writtenLength, written, refusedLength, refusedReply}
+use Rattle.paint.specs.Draw.{shownBy}
+use Rattle.paint.specs.Repaint.{RepaintsSized}
 use Rattle.picture.specs.Calls.{Lent, lineSaid, linePicture, lineList, lineReply, powerSaid, powerPicture}
 use Rattle.whole.specs.Whole.{withUnfiled}
 use Rattle.layout.specs.State.{bytesOf, panelOf, readable, stateWith, lineWith}
+use Rattle.unpacking.specs.State.{readingOf}
 use Rattle.layout.specs.Faults.{registerOf, faultsWith}
 use Rattle.layout.specs.Says.{saidBytes, bytesSaid}
 
@@ -121,3 +126,24 @@ Ends state s number state′ said′ =
 -- what `file` promises
 abbrev pub FilesBytes : Answer → ℕ → List ℕ → ℕ → List ℕ → Type 0
 FilesBytes answer unfiled faults r faults′ = (r ≡ filesBy answer unfiled faults .unfiled) × (faults′ ≡ faultsAfter answer unfiled faults)
+
+-- what `turned_down` promises
+abbrev pub TurnsDown : List ℕ → Scanned → Answer → ℕ → List ℕ → List ℕ → ℕ → List ℕ → List ℕ → List ℕ → List ℕ → Type 0
+TurnsDown state s answer unfiled reply faults number state′ reply′ faults′ said′ =
+    (number ≡ numbersOf answer .number)
+    × (state′ ≡ lineWith state (s .hold) (filesBy answer unfiled faults .unfiled))
+    × (reply′ ≡ refusedReply answer reply)
+    × (faults′ ≡ faultsAfter answer unfiled faults)
+    × (said′ ≡ saidBytes (numbersOf answer) (s .taken) (s .dropped) (s .checked) (refusedLength answer reply) 0)
+
+-- what `carried_out` promises
+abbrev pub CarriesOut : List ℕ → Scanned → Answer → ℕ → List ℕ → List ℕ → List ℕ → List ℕ → ℕ → List ℕ → List ℕ → List ℕ → List ℕ → List ℕ → Type 0
+CarriesOut state s answer unfiled picture font list reply number state′ picture′ list′ reply′ said′ =
+    let b = readingOf state .panel .body in
+    let c = carried b (s .packet) in
+    (number ≡ numbersOf answer .number)
+    × (state′ ≡ stateWith state (record { hold = s .hold; body = c .body; unfiled = unfiled }))
+    × (reply′ ≡ written true (c .reply) reply)
+    × (listed : ℕ)
+    × RepaintsSized (shownBy (b .live)) (shownBy (c .body .live)) font picture list listed picture′ list′
+    × (said′ ≡ saidBytes (numbersOf answer) (s .taken) (s .dropped) (s .checked) (writtenLength true (c .reply) reply) listed)

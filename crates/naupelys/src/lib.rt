@@ -2,10 +2,11 @@
 ghost use mathlib.Core.Path.{_≡_};
 ghost use lib.ListN.{length};
 ghost use Rattle.picture.specs.Calls.{lent};
-ghost use Rattle.naupelys.specs.Calls.{noState, recordsIn, Told, Refused, Waits, Ends, FilesBytes, PowerOnBytes, LineBytes, KeyBytes, PinBytes};
+ghost use Rattle.naupelys.specs.Calls.{noState, recordsIn, Told, Refused, Waits, Ends, FilesBytes, TurnsDown, CarriesOut, PowerOnBytes, LineBytes, KeyBytes, PinBytes};
 use answers::Answer;
 use answers::Said;
 use framing::scan::Scanned;
+use panel::state::Panel;
 
 // The answer and the counts written as what the call says; the answer's number.
 fn told(said: &mut [u8; 16], s: Said) -> u8
@@ -76,6 +77,59 @@ fn file(faults: &mut [u8], answer: Answer, unfiled: u32) -> u32
     r.unfiled
 }
 
+// The end of a line call whose packet is not carried out: of the state only the held bytes and the unfiled number change.
+fn turned_down(
+    state: &mut [u8],
+    s: Scanned,
+    answer: Answer,
+    unfiled: u32,
+    reply: &mut [u8],
+    faults: &mut [u8],
+    said: &mut [u8; 16],
+) -> u8
+    ensures { λ r. ⌜ TurnsDown (now (state .entry)) s answer unfiled (now (reply .entry)) (now (faults .entry)) r (now (state .exit)) (now (reply .exit)) (now (faults .exit)) (now (said .exit)) ⌝ }
+{
+    let written = command::hear::refuse(answer, reply);
+    let left = file(faults, answer, unfiled);
+    packing::state::write_line(state, s.hold, left);
+    let n = answers::told(answer);
+    layout::says::write(said, n, s.taken, s.dropped, s.checked, written, 0);
+    n.number
+}
+
+// The end of a line call whose packet is carried out.
+fn carried_out(
+    state: &mut [u8],
+    s: Scanned,
+    answer: Answer,
+    unfiled: u32,
+    picture: &mut [u8],
+    font: &[u8],
+    list: &mut [u8],
+    reply: &mut [u8],
+    said: &mut [u8; 16],
+) -> u8
+    ensures { λ r. ⌜ CarriesOut (now (state .entry)) s answer unfiled (now (picture .entry)) (now (font .entry)) (now (list .entry)) (now (reply .entry)) r (now (state .exit)) (now (picture .exit)) (now (list .exit)) (now (reply .exit)) (now (said .exit)) ⌝ }
+{
+    let r = unpacking::state::read(state);
+    let c = carry::carry::carry_out(r.panel.body, s.packet);
+    let written = command::hear::reply_with(c.reply, reply);
+    let listed = paint::repaint::repaint(picture, list, r.panel.body.live, c.body.live, font);
+    let hold = s.hold;
+    let body = c.body;
+    packing::state::write(
+        state,
+        Panel {
+            hold,
+            body,
+            unfiled,
+        },
+    );
+    let n = answers::told(answer);
+    layout::says::write(said, n, s.taken, s.dropped, s.checked, written, listed);
+    n.number
+}
+
 // Power-on needs no state that can be read, only the room for one.
 #[no_mangle]
 pub extern "C" fn naupelys_power_on(
@@ -108,10 +162,9 @@ pub extern "C" fn naupelys_line(
 ) -> u8
     ensures { λ r. ⌜ LineBytes (now (state .entry)) (lent (now (piece .entry)) (now (picture .entry)) (now (font .entry)) (now (list .entry)) (now (reply .entry)) (recordsIn (length (now (faults .entry))))) (now (faults .entry)) r (now (state .exit)) (now (picture .exit)) (now (list .exit)) (now (reply .exit)) (now (faults .exit)) (now (said .exit)) ⌝ }
 {
-    let r = unpacking::state::read(state);
-    let in_ranges = panel::ranges::in_ranges(r.panel);
+    let line = unpacking::state::read_line(state);
     let c = picture::calls::line_checked(
-        r.readable & in_ranges,
+        line.in_ranges,
         piece.len(),
         picture.len(),
         font.len(),
@@ -123,15 +176,26 @@ pub extern "C" fn naupelys_line(
         let answer = c.answer;
         return refused(said, answer);
     }
-    let s = framing::scan::scan(r.panel.hold, piece);
+    let s = framing::scan::scan(line.hold, piece);
     if !s.found {
-        return waited(state, s, r.panel.unfiled, said);
+        return waited(state, s, line.unfiled, said);
     }
-    let mut t = picture::calls::carried_on(r.panel, s, picture, font, list, reply);
-    let answer = t.answer;
-    let unfiled = file(faults, answer, t.panel.unfiled);
-    t.panel.unfiled = unfiled;
-    ended(state, t, said)
+    let answer = command::step::answer_to(s.packet);
+    let n = answers::told(answer);
+    if n.number != 3 {
+        return turned_down(state, s, answer, line.unfiled, reply, faults, said);
+    }
+    carried_out(
+        state,
+        s,
+        answer,
+        line.unfiled,
+        picture,
+        font,
+        list,
+        reply,
+        said,
+    )
 }
 
 // A key goes down or up.

@@ -7,14 +7,13 @@ use mathlib.Core.List.{List, map}
 use lib.ListN.{getD}
 use Rattle.lists.specs.Promise.{Determined}
 use Rattle.lists.proofs.Theorems.{one, and}
-use Rattle.framing.specs.declared.scan.Scanned.{Scanned}
 use Rattle.panel.specs.declared.state.Panel.{Panel}
 use Rattle.panel.specs.State.{poweredOn}
 use Rattle.answers.specs.declared.Said.{Said}
 use Rattle.answers.specs.Answer.{numbersOf, refusedCall}
 use Rattle.paint.specs.Draw.{cellDrawn, shownBy, placeOf}
 use Rattle.paint.specs.Repaint.{ListedIn}
-use Rattle.picture.specs.Calls.{PowersOn, Lent, shownBefore, ChecksLine, CarriesOn, Lines}
+use Rattle.picture.specs.Calls.{PowersOn, Lent, shownBefore, ChecksLine, Lines}
 use Rattle.picture.specs.Worked.{told, piecesOf, expectedOf, table}
 use Rattle.picture.proofs.LineCalls as calls
 use Rattle.picture.proofs.Worked.{all-said}
@@ -50,11 +49,6 @@ power-on-determined picture font = and (one _) (one _)
 
 pub line-checked-determined : (inRange : Bool) (piece picture font list reply records : ℕ) → Determined (ChecksLine inRange piece picture font list reply records)
 line-checked-determined inRange piece picture font list reply records = one _
-
-pub carried-on-determined : (p : Panel) (s : Scanned) (picture font list reply : List ℕ)
-    → Determined (λ (x : Said × (List ℕ × (List ℕ × List ℕ))). CarriesOn p s picture font list reply (x .0) (x .1 .0) (x .1 .1 .0) (x .1 .1 .1))
-carried-on-determined p s picture font list reply x y m n =
-    and (one _) (and (one _) (and (one _) (one _))) x y (m .0, (m .1, (m .2, m .3))) (n .0, (n .1, (n .2, n .3)))
 
 pub line-determined : (p : Panel) (l : Lent) → Determined (λ (x : Said × (List ℕ × (List ℕ × List ℕ))). Lines p l (x .0) (x .1 .0) (x .1 .1 .0) (x .1 .1 .1))
 line-determined p l x y m n =

@@ -94,7 +94,7 @@ pub fn line_checked(
 
 // What a scan of the line found, heard, and the picture repainted. The picture and the list have to be of their sizes; the
 // other checks are the caller's.
-pub fn carried_on(
+fn carried_on(
     p: Panel,
     s: Scanned,
     picture: &mut [u8],
