@@ -59,7 +59,7 @@ answered : {b : Body} {p : Packet} {t : Stepped} → Steps b p t → (numbersOf 
 unfolding numbersOf
 answered (heard.stray h) = refl
 answered (heard.done l v) = refl
-answered (heard.refused v) = refl
+answered (heard.refused l v) = refl
 
 -- a call on the line: its packet, if any, played
 record Turn (p : Panel) (s : Scanned) (r : Said) (out′ : List ℕ) : Type 0 where
@@ -152,7 +152,7 @@ module _ (font : List ℕ) (w v : World) (piece out : List ℕ) (r : Said) (out�
       go a (heard.nothing f) = f
       go a (heard.packet f q (heard.stray h)) = let z : _≡_ {A = ℕ} 0 1 = cc in absurd (omega arith)
       go a (heard.packet f q (heard.done l v)) = let z : _≡_ {A = ℕ} 0 1 = cc in absurd (omega arith)
-      go a (heard.packet f q (heard.refused v)) = let z : _≡_ {A = ℕ} 0 1 = cc in absurd (omega arith)
+      go a (heard.packet f q (heard.refused l v)) = let z : _≡_ {A = ℕ} 0 1 = cc in absurd (omega arith)
 
   piece-fits : length piece ≤ 4096
   piece-fits = leb-true _ _ (checks-passed .1 .0)
