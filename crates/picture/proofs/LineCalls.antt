@@ -17,15 +17,8 @@ use Rattle.answers.specs.declared.Said.{Said}
 use Rattle.answers.specs.Answer.{numbersOf, Check, decided, refusedCall}
 use Rattle.command.specs.Hear.{scannedBy, heardBy, replyBy, Hears}
 use Rattle.answers.proofs.Checks.{Fails, Pass, ByNumber, refused-by, accepted-by, either-way, call-passed, call-refused, call-unchanged}
-use Rattle.packets.specs.declared.packet.Packet.{Packet}
 use Rattle.framing.specs.declared.scan.Scanned.{Scanned}
-use Rattle.verdict.specs.declared.verdict.Verdict.{Verdict}
-use Rattle.verdict.specs.declared.verdict.Verdict.the-variants as verdicts
-use Rattle.verdict.specs.Verdict.{verdictOf}
-use Rattle.panel.specs.declared.state.Body.{Body}
-use Rattle.carry.specs.Carry.{contentOf}
-use Rattle.command.specs.declared.step.Stepped.{Stepped}
-use Rattle.command.specs.Step.{ruled, stepOf}
+use Rattle.command.proofs.Parts.{step-answer, below}
 use Rattle.paint.specs.Draw.{cellDrawn, shownBy, placeOf, drawn}
 use Rattle.paint.specs.Repaint.{painted, ListedIn, Repaints}
 use Rattle.paint.proofs.Changes.{list-is-the-change, listed-differs, no-other-byte}
@@ -103,18 +96,9 @@ power-draws picture font r picture′ m a =
     m .1 ∙ accepted-by (powerChecks picture font) q _ _ ∙ sym (ap (λ (s : Said). drawn (shownBy (s .panel .body .live)) font) (m .0 ∙ accepted-by (powerChecks picture font) q _ _))
 
 -- what is heard is answered by a number below 10
-ruled-below : (v : Verdict) (b : Body) (k : Packet) → numbersOf (ruled v b k .answer) .number < 10
-unfolding ruled numbersOf
-ruled-below verdicts.Allowed b k = lit< tt
-ruled-below (verdicts.Refused reason place) b k = lit< tt
-
-stepped-below : (b : Body) (k : Packet) → numbersOf (stepOf b k .answer) .number < 10
-unfolding stepOf numbersOf
-stepped-below b k = when-either (λ (t : Stepped). numbersOf (t .answer) .number < 10) _ _ _ (λ _. ruled-below (verdictOf (k .kind) (contentOf k)) b k) (λ _. lit< tt)
-
 pub heard-below : (p : Panel) (l : Lent) → numbersOf (heard p l .answer) .number < 10
 unfolding heardBy numbersOf
-heard-below p l = when-either (λ (s : Said). numbersOf (s .answer) .number < 10) _ _ _ (λ _. stepped-below (p .body) (scannedBy p (l .piece) .packet)) (λ _. lit< tt)
+heard-below p l = when-either (λ (s : Said). numbersOf (s .answer) .number < 10) _ _ _ (λ _. let k = scannedBy p (l .piece) .packet in rw (step-answer (p .body) k) (below k)) (λ _. lit< tt)
 
 module _ (p : Panel) (l : Lent) (r : Said) (picture′ list′ reply′ : List ℕ) (made : Lines p l r picture′ list′ reply′) where
   pub line-unchanged : 10 ≤ numbersOf (r .answer) .number → (r ≡ refusedCall p (r .answer)) × (picture′ ≡ l .picture) × (list′ ≡ l .list) × (reply′ ≡ l .reply)
