@@ -24,7 +24,7 @@ use Rattle.command.specs.declared.step.Stepped.{Stepped}
 use Rattle.answers.specs.Answer.{numbersOf}
 use Rattle.command.specs.Hear.{scannedBy, writtenLength, written, Hears}
 use Rattle.command.proofs.Effects.{BodyInRange, effect-in-range}
-use Rattle.command.proofs.Heard.{Steps, stray, done, refused, Heard, nothing, packet, see}
+use Rattle.command.proofs.Heard.{StepSeen, stray, done, refused, Heard, nothing, packet, see}
 use Rattle.events.proofs.InRange.{panel-parts, panel-whole}
 
 -- a panel that differs in the hold alone
@@ -40,7 +40,7 @@ abbrev pub RepliesError : ℕ → Panel → List ℕ → Said → List ℕ → T
 RepliesError command p out r out′ =
     (r .panel ≡ withHold p (r .panel .hold)) × (length out ≡ 26 → (out′ ≡ front (packetBytes (192 + command) []) out) × (r .reply ≡ 4))
 
-pub step-in-range : (b : Body) (p : Packet) (t : Stepped) → Steps b p t → BodyInRange b → BodyInRange (t .body)
+pub step-in-range : (b : Body) (p : Packet) (t : Stepped) → StepSeen b p t → BodyInRange b → BodyInRange (t .body)
 unfolding carried
 step-in-range b p t (stray h) i = i
 step-in-range b p t (done l v) i =

@@ -24,18 +24,18 @@ use Rattle.command.proofs.Hearing.{nothing-heard, packet-heard}
 
 -- a packet is a stray, a command done or a command refused
 module _ (b : Body) (p : Packet) where
-  pub data Steps : Stepped → Type 0 where
-    stray : 64 ≤ p .kind → Steps (strayed b (p .kind))
+  pub data StepSeen : Stepped → Type 0 where
+    stray : 64 ≤ p .kind → StepSeen (strayed b (p .kind))
     done : p .kind < 64 → verdictOf (p .kind) (contentOf p) ≡ verdicts.Allowed
-        → Steps (record { body = carried b p .body; answer = Done (p .kind); replies = true; reply = carried b p .reply })
+        → StepSeen (record { body = carried b p .body; answer = Done (p .kind); replies = true; reply = carried b p .reply })
     refused : {reason : Reason} {place : ℕ} → p .kind < 64 → verdictOf (p .kind) (contentOf p) ≡ verdicts.Refused reason place
-        → Steps (record { body = b; answer = Refused (p .kind) reason place; replies = true; reply = packetOf (192 + p .kind) [] })
+        → StepSeen (record { body = b; answer = Refused (p .kind) reason place; replies = true; reply = packetOf (192 + p .kind) [] })
 
-  pub steps : Steps (stepOf b p)
+  pub steps : StepSeen (stepOf b p)
   unfolding stepOf ruled
-  steps = when-either Steps _ _ _ (λ e. go (ltb-true _ _ e) (verdictOf (p .kind) (contentOf p)) refl) (λ e. stray (ltb-false _ _ e))
+  steps = when-either StepSeen _ _ _ (λ e. go (ltb-true _ _ e) (verdictOf (p .kind) (contentOf p)) refl) (λ e. stray (ltb-false _ _ e))
     where
-      go : p .kind < 64 → (v : Verdict) → verdictOf (p .kind) (contentOf p) ≡ v → Steps (ruled v b p)
+      go : p .kind < 64 → (v : Verdict) → verdictOf (p .kind) (contentOf p) ≡ v → StepSeen (ruled v b p)
       go l verdicts.Allowed e = done l e
       go l (verdicts.Refused reason place) e = refused l e
 
@@ -43,7 +43,7 @@ module _ (b : Body) (p : Packet) where
 module _ (p : Panel) (s : Scanned) (out : List ℕ) where
   pub data Heard : Said → List ℕ → Type 0 where
     nothing : s .found ≡ false → Heard (saidOf p s (p .body) Waiting 0) out
-    packet : {t : Stepped} → s .found ≡ true → t ≡ stepOf (p .body) (s .packet) → Steps (p .body) (s .packet) t
+    packet : {t : Stepped} → s .found ≡ true → t ≡ stepOf (p .body) (s .packet) → StepSeen (p .body) (s .packet) t
         → Heard (saidOf p s (t .body) (t .answer) (writtenLength (t .replies) (t .reply) out)) (written (t .replies) (t .reply) out)
 
   heard-by : Heard (heardBy p s out) (replyBy p s out)

@@ -25,7 +25,7 @@ use Rattle.command.specs.declared.step.Stepped.{Stepped}
 use Rattle.command.specs.Step.{strayed, ruled, stepOf, ruling, answerTo}
 use Rattle.command.specs.Hear.{writtenLength, written, saidOf, heardBy, replyBy, refusedLength, refusedReply}
 use Rattle.command.proofs.Hearing.{packet-heard}
-use Rattle.command.proofs.Heard.{Steps, stray, done, refused, steps}
+use Rattle.command.proofs.Heard.{StepSeen, stray, done, refused, steps}
 
 -- the variants of `Answer` that are neither done nor refused
 abbrev pub rest : List ℕ
@@ -47,7 +47,7 @@ module _ (b : Body) (p : Packet) where
       → stepOf b p ≡ record { body = carried b p .body; answer = answerTo p; replies = true; reply = carried b p .reply }
   step-done {code} e = go (stepOf b p) (steps b p) step-answer
     where
-      go : (t : Stepped) → Steps b p t → t .answer ≡ answerTo p
+      go : (t : Stepped) → StepSeen b p t → t .answer ≡ answerTo p
           → t ≡ record { body = carried b p .body; answer = answerTo p; replies = true; reply = carried b p .reply }
       go t (stray h) q = let z : _≡_ {A = ℕ} 0 1 = cc in absurd (omega arith)
       go t (done l v) q = rw q
@@ -57,7 +57,7 @@ module _ (b : Body) (p : Packet) where
       → (code < 64) × (stepOf b p ≡ record { body = b; answer = answerTo p; replies = true; reply = packetOf (192 + code) [] })
   step-refused {code} {reason} {place} e = go (stepOf b p) (steps b p) step-answer
     where
-      go : (t : Stepped) → Steps b p t → t .answer ≡ answerTo p
+      go : (t : Stepped) → StepSeen b p t → t .answer ≡ answerTo p
           → (code < 64) × (t ≡ record { body = b; answer = answerTo p; replies = true; reply = packetOf (192 + code) [] })
       go t (stray h) q = let z : _≡_ {A = ℕ} 0 1 = cc in absurd (omega arith)
       go t (done l v) q = let z : _≡_ {A = ℕ} 0 1 = cc in absurd (omega arith)
@@ -68,7 +68,7 @@ module _ (b : Body) (p : Packet) where
   pub step-else : OneOf rest (tagOf the-type (answerTo p)) → stepOf b p ≡ record { body = b; answer = answerTo p; replies = false; reply = packetOf 0 [] }
   step-else k = go (stepOf b p) (steps b p) step-answer
     where
-      go : (t : Stepped) → Steps b p t → t .answer ≡ answerTo p → t ≡ record { body = b; answer = answerTo p; replies = false; reply = packetOf 0 [] }
+      go : (t : Stepped) → StepSeen b p t → t .answer ≡ answerTo p → t ≡ record { body = b; answer = answerTo p; replies = false; reply = packetOf 0 [] }
       go t (stray h) q = rw q
       go t (done l v) q = absurd (miss rest 2 tt (rw (← q) at k))
       go t (refused l v) q = absurd (miss rest 3 tt (rw (← q) at k))
@@ -97,7 +97,7 @@ module _ (p : Panel) (s : Scanned) (out : List ℕ) where
   unfolding refusedLength refusedReply writtenLength written when_then_else_ numbersOf
   not-done f n = go (stepOf (p .body) (s .packet)) (steps (p .body) (s .packet)) (step-answer (p .body) (s .packet)) refl
     where
-      go : (t : Stepped) → Steps (p .body) (s .packet) t → t .answer ≡ answerTo (s .packet) → t ≡ stepOf (p .body) (s .packet)
+      go : (t : Stepped) → StepSeen (p .body) (s .packet) t → t .answer ≡ answerTo (s .packet) → t ≡ stepOf (p .body) (s .packet)
           → ComesTo (p .body) (refusedLength (answerTo (s .packet)) out) (refusedReply (answerTo (s .packet)) out)
       go t (stray h) q e = let h = packet-heard p s out t _ _ f e refl refl in rw (← q) (sym (h .0), sym (h .1))
       go t (done l v) q e = absurd (n (rw (← q)))
@@ -112,7 +112,7 @@ module _ (p : Panel) (s : Scanned) (out : List ℕ) where
   unfolding numbersOf
   is-done f n = go (stepOf (p .body) (s .packet)) (steps (p .body) (s .packet)) (step-answer (p .body) (s .packet)) refl
     where
-      go : (t : Stepped) → Steps (p .body) (s .packet) t → t .answer ≡ answerTo (s .packet) → t ≡ stepOf (p .body) (s .packet)
+      go : (t : Stepped) → StepSeen (p .body) (s .packet) t → t .answer ≡ answerTo (s .packet) → t ≡ stepOf (p .body) (s .packet)
           → let c = carried (p .body) (s .packet) in ComesTo (c .body) (writtenLength true (c .reply) out) (written true (c .reply) out)
       go t (stray h) q e = absurd (omega (arith, rw (← q) at n))
       go t (done l v) q e = let h = packet-heard p s out t _ _ f e refl refl in rw (← q) (sym (h .0), sym (h .1))

@@ -30,7 +30,7 @@ use Rattle.events.specs.Keys.{withBody}
 use Rattle.command.specs.Hear.{scannedBy, heardBy, replyBy}
 use Rattle.answers.proofs.Checks.{Pass, accepted-by}
 use Rattle.command.proofs.Heard as heard
-use Rattle.command.proofs.Heard.{Steps, Heard}
+use Rattle.command.proofs.Heard.{StepSeen, Heard}
 use Rattle.command.proofs.HearCalls.{hear-in-range}
 use Rattle.picture.specs.Calls.{Lent, lent, lineChecks, altered, withListed, lineSaid, linePicture, lineList, lineReply}
 use Rattle.paint.proofs.Changes.{length-painted}
@@ -55,7 +55,7 @@ filedBy (packet a _ ∷ entries) f = filedBy entries (filedIf (filingOf a .refus
 filedBy (other _ _ _ ∷ entries) f = filedBy entries f
 
 -- a packet is answered by another number than waiting's
-answered : {b : Body} {p : Packet} {t : Stepped} → Steps b p t → (numbersOf (t .answer) .number =? 1) ≡ false
+answered : {b : Body} {p : Packet} {t : Stepped} → StepSeen b p t → (numbersOf (t .answer) .number =? 1) ≡ false
 unfolding numbersOf
 answered (heard.stray h) = refl
 answered (heard.done l v) = refl
