@@ -61,10 +61,11 @@ Hears p s out r out′ = (r ≡ heardBy p s out) × (out′ ≡ replyBy p s out)
 abbrev pub Replies : Packet → List ℕ → ℕ → List ℕ → Type 0
 Replies packet out r out′ = (r ≡ writtenLength true packet out) × (out′ ≡ written true packet out)
 
--- "An error reply has type 192 + code and length 0.": an answer's, where it is 4, a refused packet; a code is six bits
+-- "An error reply has type 192 + code and length 0."; a code has six bits
 abbrev pub errorReply : Answer → Packet
 errorReply a = packetOf (192 + numbersOf a .command % 64) []
 
+-- the length and the buffer after answer 4, a refused packet; to other answers nothing is replied
 unfoldable pub refusedLength : Answer → List ℕ → ℕ
 refusedLength a out = writtenLength (numbersOf a .number =? 4) (errorReply a) out
 
