@@ -25,7 +25,7 @@ use Rattle.answers.specs.Answer.{numbersOf}
 use Rattle.command.specs.Hear.{scannedBy, writtenLength, written, Hears}
 use Rattle.command.proofs.Effects.{BodyInRange, effect-in-range}
 use Rattle.command.proofs.Heard.{StepSeen, stray, done, refused, Heard, nothing, packet, see}
-use Rattle.events.proofs.InRange.{panel-parts, panel-whole}
+use Rattle.panel.proofs.InRange.{panel-parts, panel-whole}
 
 -- a panel that differs in the hold alone
 abbrev pub withHold : Panel → Hold → Panel

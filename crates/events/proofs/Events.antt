@@ -5,7 +5,7 @@ use mathlib.Core.Bool.{Bool, true, false}
 use Rattle.panel.specs.declared.state.Keys.{Keys}
 use Rattle.events.specs.Keys.{isOn, keyEvent}
 use Rattle.events.proofs.Bits.{with-bit-at-most, without-bit-at-most, with-bit-on, without-bit-off, with-bit-leaves, without-bit-leaves}
-use Rattle.events.proofs.InRange.{KeysParts}
+use Rattle.panel.proofs.InRange.{KeysParts}
 
 module _ (number : ℕ) (n : number ≤ 5) (k : Keys) (h : KeysParts k) where
   pub event-in-range : (down : Bool) → KeysParts (keyEvent down number k)

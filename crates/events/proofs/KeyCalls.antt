@@ -17,7 +17,7 @@ use Rattle.answers.specs.Answer.{numbersOf, refusedCall}
 use Rattle.events.specs.Keys.{isOn, keyEvent, reportCode, asTold, keyChecks, reports, keyAccepted, keyReply, Presses}
 use Rattle.answers.proofs.Checks.{Fails, Pass, ByNumber, refused-by, accepted-by, call-passed}
 use Rattle.events.proofs.Events.{event-in-range}
-use Rattle.events.proofs.InRange.{KeysParts, panel-parts, panel-whole, keys-parts, keys-whole}
+use Rattle.panel.proofs.InRange.{KeysParts, panel-parts, panel-whole, keys-parts, keys-whole}
 
 -- the key is as told where its bit is what it is told
 pub as-told : (down : Bool) (number : ℕ) (k : Keys) → isOn (k .down) number ≡ down → asTold down number k ≡ true

@@ -18,7 +18,7 @@ use Rattle.events.specs.Keys.{keyChecks, reportBytes, reports, withBody, keyAcc
 use Rattle.events.specs.Pins.{pinChecks, pinAccepted, pinSaid}
 use Rattle.sequences.specs.Story.{Other, key, pin, Answers, presses, moves, replied}
 use Rattle.answers.proofs.Checks.{refused-by, accepted-by, either-way, call-in-range}
-use Rattle.events.proofs.InRange.{panel-parts, panel-whole}
+use Rattle.panel.proofs.InRange.{panel-parts, panel-whole}
 use Rattle.events.proofs.KeyCalls.{accepted-in-range}
 
 pub made-in-range : {c : Other} {p : Panel} {out : List ℕ} {r : Said} {out′ : List ℕ} → Answers c p out r out′ → inRanges p ≡ true → inRanges (r .panel) ≡ true

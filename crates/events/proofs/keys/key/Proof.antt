@@ -10,7 +10,7 @@ use Rattle.panel.specs.Ranges.{inRanges}
 use Rattle.events.specs.Keys.{keyChecks, reports}
 use Rattle.events.proofs.Bits.{same, unlike}
 use Rattle.answers.proofs.Checks.{Pass, here, later, accepted-by}
-use Rattle.events.proofs.InRange.{panel-parts, keys-parts}
+use Rattle.panel.proofs.InRange.{panel-parts, keys-parts}
 use Rattle.events.proofs.KeyCalls.{as-told, not-as-told, key-refused, key-silent, key-reported}
 use Rattle.events.proofs.keys.key.Statement.{statement}
 use Rattle.events.proofs.keys.key.Tie as tie
