@@ -2,11 +2,11 @@
 use mathlib.Core.Path.{_≡_, refl, sym, _∙_, ap}
 use mathlib.Core.Logic.{dite}
 use mathlib.Core.List.{List, [], _∷_, map}
-use Prim.Native.Nat.{ℕ, zero, suc, _+_, _*_, _<_, _≤_, min}
+use Prim.Native.Nat.{ℕ, zero, suc, _+_, _*_, _-_, _<_, _≤_, min}
 use native.Mathlib.Decide.{decLt}
 use native.Mathlib.Numerals.{add-one}
 use native.Mathlib.Omega.{arith}
-use lib.ListN.{length, getD, take, drop, replicate, length-append, length-take, drop-of-length-le, List·getD-eq-default}
+use lib.ListN.{length, getD, take, drop, replicate, length-append, length-take, length-drop, drop-of-length-le, List·getD-eq-default}
 use lib.Seq.{drop-cons, take-nil}
 use mir.Syntax.{w8}
 use mir.Val.{Val}
@@ -14,7 +14,7 @@ use denote.Array.{each, inArray}
 use denote.Plain.{UInt}
 use denote.Shadow.{shadow}
 use Rattle.lists.specs.Runs.{front, pasted}
-use Rattle.lists.proofs.Laws.{front-run, pasted-front, drop-most}
+use Rattle.lists.proofs.Laws.{front-run, pasted-front, take-most, drop-most}
 use Rattle.glyphs.specs.Glyphs.{eightFrom, nestedOf, flatFirst, flatOf}
 
 pub length-flat : (n : ℕ) (glyphs : List (List ℕ)) → length (flatFirst n glyphs) ≡ 8 * n
@@ -62,11 +62,15 @@ eight-elements l k =
     λ i. getD l k 0 ∷ getD l (s₁ i) 0 ∷ getD l (s₂ i) 0 ∷ getD l (s₃ i) 0 ∷ getD l (s₄ i) 0 ∷ getD l (s₅ i) 0 ∷ getD l (s₆ i) 0 ∷ getD l (s₇ i) 0 ∷ []
 
 -- what there is of eight, laid into eight zeros
-pub eight-pasted : (l : List ℕ) (from k : ℕ) (run : List ℕ) → k ≡ min from (length l) → run ≡ take 8 (drop k l) → pasted (replicate 8 0) 0 run ≡ eightFrom l from
-eight-pasted l from k run e r =
-    let there : run ≡ take 8 (drop from l) = r ∙ ap (take 8) (drop-most k from l (omega arith)) in
+pub eight-pasted : (l : List ℕ) (from k n : ℕ) (rows : List ℕ) → k ≡ min from (length l)
+    → rows ≡ pasted (replicate 8 0) 0 (take n (drop k l)) → min n (length l - k) ≡ min 8 (length l - k) → rows ≡ eightFrom l from
+eight-pasted l from k n rows e p h =
+    let d = length-drop k l in
+    let m = min n (length l - k) in
+    let most : take n (drop k l) ≡ take 8 (drop k l) = sym (take-most m n (drop k l) (omega arith)) ∙ take-most m 8 (drop k l) (omega arith) in
+    let there : take n (drop k l) ≡ take 8 (drop from l) = most ∙ ap (take 8) (drop-most k from l (omega arith)) in
     let fits : length (take 8 (drop from l)) ≤ 8 = omega (arith, length-take 8 (drop from l)) in
-    rw there (pasted-front (take 8 (drop from l)) (replicate 8 0) fits ∙ zeros-behind l from 8 ∙ eight-elements l from)
+    p ∙ rw there (pasted-front (take 8 (drop from l)) (replicate 8 0) fits ∙ zeros-behind l from 8 ∙ eight-elements l from)
 
 pub eight-whole : (l : List ℕ) → length l ≡ 8 → eightFrom l 0 ≡ l
 eight-whole l h = all-elements 0 l 0 8 h

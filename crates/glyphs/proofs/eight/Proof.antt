@@ -1,8 +1,5 @@
-use Prim.Native.Nat.{_+_, _-_, _≤_}
-use mathlib.Core.Path.{_≡_, sym, _∙_}
-use lib.ListN.{length, drop, length-drop}
-use lib.Seq.{take-all}
-use Rattle.lists.proofs.Laws.{all-behind}
+use Prim.Native.Nat.{_+_, _-_}
+use lib.ListN.{length}
 use Rattle.glyphs.proofs.Flat.{eight-pasted}
 use native.Mathlib.Omega.{arith}
 use borrow.Author.Needs.{needs}
@@ -56,15 +53,13 @@ returns : tie.Need-returns
 returns c =
     let k = c .before .before .before .before .before .at-most in
     let l = c .before .before .before .before .before .before .before .args .bytes .now in
-    let e : k .result + 8 - k .result ≡ 8 = omega arith in
-    c .before .paste .ensures ∙ eight-pasted l _ (k .result) _ (k .ensures) (rw e)
+    eight-pasted l _ (k .result) (k .result + 8 - k .result) _ (k .ensures) (c .before .paste .ensures) (omega arith)
 
 returns-2 : tie.Need-returns-2
 returns-2 c =
     let k = c .before .before .before .before .before .at-most in
     let l = c .before .before .before .before .before .before .before .args .bytes .now in
-    let few : length (drop (k .result) l) ≤ 8 = omega (arith, length-drop (k .result) l) in
-    c .before .paste2 .ensures ∙ eight-pasted l _ (k .result) _ (k .ensures) (all-behind (k .result) l ∙ sym (take-all 8 (drop (k .result) l) few))
+    eight-pasted l _ (k .result) (length l - k .result) _ (k .ensures) (c .before .paste2 .ensures) (omega arith)
 
 pub eight-spec : {M : Type 1} → statement M
 eight-spec =
