@@ -8,9 +8,9 @@ use lib.ListN.{length, getD}
 use borrow.Author.Tests.{eqb-true, leb-true}
 use Rattle.lists.specs.Tests.{when_then_else_, _≤?_, _=?_, allAtMost}
 use Rattle.lists.proofs.Laws.{when-either}
-use Rattle.verdict.specs.declared.table.Rule.the-variants.{Glyph}
+use Rattle.table.specs.declared.Rule.the-variants.{Glyph}
 use Rattle.verdict.specs.declared.verdict.Verdict.the-variants.{Allowed}
-use Rattle.verdict.specs.Table.{table, lookUp, configAllowed}
+use Rattle.table.specs.Table.{table, lookUp, configAllowed}
 use Rattle.verdict.specs.Verdict.{inRange, verdictOf}
 use Rattle.panel.specs.declared.state.Settings.{Settings}
 use Rattle.panel.specs.declared.state.Keys.{Keys}

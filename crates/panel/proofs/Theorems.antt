@@ -6,7 +6,7 @@ use mathlib.Core.List.{List}
 use Rattle.lists.specs.Promise.{Determined}
 use Rattle.lists.specs.Tests.{all}
 use Rattle.lists.proofs.Theorems.{one}
-use Rattle.verdict.specs.Table.{configAllowed}
+use Rattle.table.specs.Table.{configAllowed}
 use Rattle.panel.specs.declared.state.Panel.{Panel}
 use Rattle.panel.specs.State.{factorySettings, poweredOn, StartsSettings, Starts}
 use Rattle.panel.specs.Ranges.{numbersInRange, settingsInRange, keysInRange, inRanges, PartsRange, Ranges}

@@ -5,7 +5,7 @@ use mathlib.Core.Path.{_≡_}
 use mathlib.Core.Bool.{Bool, _&&_}
 use mathlib.Core.List.{List, []}
 use Rattle.lists.specs.Tests.{_≤?_, all, allAtMost}
-use Rattle.verdict.specs.Table.{configAllowed}
+use Rattle.table.specs.Table.{configAllowed}
 use Rattle.panel.specs.declared.state.Settings.{Settings}
 use Rattle.panel.specs.declared.state.Keys.{Keys}
 use Rattle.panel.specs.declared.state.Panel.{Panel}

@@ -11,7 +11,7 @@ fn configs_in_range(configs: &[u8]) -> bool
     let mut ok = true;
     let mut i = 0;
     while i < configs.len() {
-        ok = ok & verdict::table::config_allowed(configs[i]);
+        ok = ok & table::config_allowed(configs[i]);
         i += 1;
     }
     ok

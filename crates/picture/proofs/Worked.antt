@@ -8,7 +8,7 @@ use Rattle.packets.specs.Fcs.{afterBit, afterByte}
 use Rattle.packets.specs.Packet.{composedLength, composed}
 use Rattle.packets.specs.Judge.{checksumRight, judge}
 use Rattle.framing.specs.Scan.{settleAt, settle, goOn, scan, scannedOf}
-use Rattle.verdict.specs.Table.{lookUp, configAllowed}
+use Rattle.table.specs.Table.{lookUp, configAllowed}
 use Rattle.verdict.specs.Verdict.{inRange, firstOut, isReboot, wholeVerdict, verdictBy}
 use Rattle.glyphs.specs.Glyphs.{nestedOf, flatFirst, flatOf}
 use Rattle.panel.specs.State.{factorySettings, poweredOn}

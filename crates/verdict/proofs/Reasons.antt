@@ -10,13 +10,13 @@ use lib.ListN.{length}
 use borrow.Author.Tests.{lt-ltb, le-ltb}
 use Rattle.lists.specs.Tests.{when_then_else_, _<?_}
 use Rattle.lists.proofs.Laws.{when-either}
-use Rattle.verdict.specs.declared.table.Row.{Row}
-use Rattle.verdict.specs.declared.table.Rule.{Rule}
-use Rattle.verdict.specs.declared.table.Rule.the-variants.{Free, UpTo, Glyph, Address, Place, Reboot, Pin}
+use Rattle.table.specs.declared.Row.{Row}
+use Rattle.table.specs.declared.Rule.{Rule}
+use Rattle.table.specs.declared.Rule.the-variants.{Free, UpTo, Glyph, Address, Place, Reboot, Pin}
 use Rattle.verdict.specs.declared.verdict.Reason.the-variants.{UnknownCommand, LengthNotAllowed, DataOutOfRange}
 use Rattle.verdict.specs.declared.verdict.Verdict.{Verdict}
 use Rattle.verdict.specs.declared.verdict.Verdict.the-variants.{Allowed, Refused}
-use Rattle.verdict.specs.Table.{table, lookUp}
+use Rattle.table.specs.Table.{table, lookUp}
 use Rattle.verdict.specs.Verdict.{firstOut, wholeVerdict, verdictBy, reasonNumber, Judges}
 
 module _ (r : Row) (d : List ℕ) where

@@ -9,13 +9,13 @@ use borrow.Author.Tests.{not-true, not-false}
 use Rattle.lists.specs.Promise.{Determined}
 use Rattle.lists.proofs.Theorems.{one}
 use Rattle.lists.proofs.Firsts.{found-holds, none-before}
-use Rattle.verdict.specs.declared.table.Rule.{Rule}
+use Rattle.table.specs.declared.Rule.{Rule}
 use Rattle.verdict.specs.declared.verdict.Reason.{Reason}
 use Rattle.verdict.specs.declared.verdict.Reason.the-variants.{DataOutOfRange}
 use Rattle.verdict.specs.declared.verdict.Verdict.the-variants.{Refused}
-use Rattle.verdict.specs.Table.{table, lookUp, Looks, Allows}
+use Rattle.table.specs.Table.{table, lookUp}
 use Rattle.verdict.specs.Verdict.{inRange, firstOut, Judges, Numbers}
-use Rattle.verdict.proofs.Rows.{longest-22}
+use Rattle.table.proofs.Rows.{longest-22}
 use Rattle.verdict.proofs.Reasons.{Seen, no-command, short, long, out, together, see, late}
 
 -- place is 2 + the index of a data byte out of its range, and all before it are in theirs
@@ -48,12 +48,6 @@ module _ (code : ℕ) (content : List ℕ) where
       go (together f h e) = absurd (omega (arith, (rw e at (late (lookUp code table .rule) content)) .0))
 
 -- For each public function, any two results that its promise allows are equal.
-pub look-determined : (code : ℕ) → Determined (Looks code)
-look-determined code = one _
-
-pub config-allowed-determined : (config : ℕ) → Determined (Allows config)
-config-allowed-determined config = one _
-
 pub verdict-on-determined : (code : ℕ) (content : List ℕ) → Determined (Judges code content)
 verdict-on-determined code content = one _
 

@@ -6,14 +6,14 @@ use mathlib.Core.List.{List}
 use lib.ListN.{length, getD}
 use Rattle.lists.specs.Tests.{when_then_else_, _<?_, _≤?_, _=?_}
 use Rattle.lists.specs.First.{firstBelow}
-use Rattle.verdict.specs.declared.table.Row.{Row}
-use Rattle.verdict.specs.declared.table.Rule.{Rule}
-use Rattle.verdict.specs.declared.table.Rule.the-variants.{Free, UpTo, Glyph, Address, Place, Reboot, Pin}
+use Rattle.table.specs.declared.Row.{Row}
+use Rattle.table.specs.declared.Rule.{Rule}
+use Rattle.table.specs.declared.Rule.the-variants.{Free, UpTo, Glyph, Address, Place, Reboot, Pin}
 use Rattle.verdict.specs.declared.verdict.Reason.{Reason}
 use Rattle.verdict.specs.declared.verdict.Reason.the-variants.{UnknownCommand, LengthNotAllowed, DataOutOfRange, PastColumn19, NotTheReboot}
 use Rattle.verdict.specs.declared.verdict.Verdict.{Verdict}
 use Rattle.verdict.specs.declared.verdict.Verdict.the-variants.{Allowed, Refused}
-use Rattle.verdict.specs.Table.{table, lookUp, configAllowed}
+use Rattle.table.specs.Table.{table, lookUp, configAllowed}
 
 -- whether the data byte at index i is in its range, by the column "data allowed"
 unfoldable pub inRange : Rule → List ℕ → ℕ → Bool

@@ -3,7 +3,7 @@ ghost use mathlib.Core.Path.{_≡_};
 ghost use Prim.Native.Nat.{_<_, _≤_};
 ghost use lib.ListN.{length};
 ghost use Rattle.verdict.specs.Verdict.{inRange, firstOut, isReboot, wholeVerdict, Judges, Numbers};
-use crate::table::Rule;
+use table::Rule;
 
 // The reasons, in the order in which they are looked for.
 pub enum Reason {
@@ -47,7 +47,7 @@ fn in_range(rule: Rule, content: &[u8], i: usize) -> bool
             if i == 1 {
                 return b <= 100;
             }
-            (content[0] <= 4) & crate::table::config_allowed(b)
+            (content[0] <= 4) & table::config_allowed(b)
         }
     }
 }
@@ -115,7 +115,7 @@ fn whole(rule: Rule, content: &[u8]) -> Verdict
 pub fn verdict_on(code: u8, content: &[u8]) -> Verdict
     ensures { λ r. ⌜ Judges code (now (content .entry)) r ⌝ }
 {
-    let row = crate::table::look(code);
+    let row = table::look(code);
     if !row.known {
         return Verdict::Refused(Reason::UnknownCommand, 0);
     }

@@ -2,7 +2,7 @@ use Prim.Native.Nat.{_≤_, _-_}
 use mathlib.Core.Path.{_≡_, refl, sym, _∙_}
 use mathlib.Core.Bool.{_&&_}
 use lib.ListN.{length, drop}
-use Rattle.verdict.specs.Table.{configAllowed}
+use Rattle.table.specs.Table.{configAllowed}
 use Rattle.lists.proofs.Laws.{all-turn, all-ended}
 use Rattle.panel.specs.Ranges.{configsInRange}
 use native.Mathlib.Omega.{arith}
@@ -11,7 +11,7 @@ use Rattle.panel.proofs.ranges.configs_in_range.Statement.{statement}
 use Rattle.panel.proofs.ranges.configs_in_range.Tie as tie
 use Rattle.panel.proofs.ranges.configs_in_range.Reads as reads
 use Rattle.panel.proofs.ranges.configs_in_range.Lts as lts
-use Rattle.verdict.proofs.table.config_allowed.Reads as config-allowed-reads
+use Rattle.table.proofs.config_allowed.Reads as config-allowed-reads
 
 abbrev Inv-loop : tie.InvT-loop
 Inv-loop configs ok₀ i₀ ok i = (i ≤ length configs) × (configsInRange configs ≡ ok && configsInRange (drop i configs))

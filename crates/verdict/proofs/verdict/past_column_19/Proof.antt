@@ -6,7 +6,7 @@ use lib.ListN.{length, getD, List·getD-eq-default}
 use borrow.Author.Needs.{needs}
 use borrow.Author.Tests.{lt-ltb, le-ltb}
 use Rattle.lists.proofs.Laws.{when-true, when-false}
-use Rattle.verdict.specs.declared.table.Rule.the-variants.{Place}
+use Rattle.table.specs.declared.Rule.the-variants.{Place}
 use Rattle.verdict.specs.declared.verdict.Reason.the-variants.{PastColumn19}
 use Rattle.verdict.specs.declared.verdict.Verdict.the-variants.{Allowed, Refused}
 use Rattle.verdict.specs.Verdict.{wholeVerdict}

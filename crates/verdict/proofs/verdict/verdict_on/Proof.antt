@@ -5,7 +5,7 @@ use native.Mathlib.Omega.{arith}
 use lib.ListN.{length}
 use borrow.Author.Needs.{needs}
 use borrow.Author.Tests.{ltb-true, ltb-false, not-true, not-false}
-use Rattle.verdict.proofs.Rows.{longest-22}
+use Rattle.table.proofs.Rows.{longest-22}
 use Rattle.verdict.proofs.Reasons.{Fits, no-command, short, long, out, together, judged}
 use Rattle.verdict.proofs.verdict.verdict_on.Statement.{statement}
 use Rattle.verdict.proofs.verdict.verdict_on.Tie as tie

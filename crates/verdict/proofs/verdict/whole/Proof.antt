@@ -5,11 +5,11 @@ use types.Run.{OneOf, miss}
 use denote.Enum.Declared.{tagOf}
 use borrow.Author.Needs.{needs}
 use Rattle.lists.proofs.Laws.{when-true, when-false}
-use Rattle.verdict.specs.declared.table.Rule.{Rule}
-use Rattle.verdict.specs.declared.table.Rule.the-variants.{Free, UpTo, Glyph, Address, Place, Reboot, Pin}
+use Rattle.table.specs.declared.Rule.{Rule}
+use Rattle.table.specs.declared.Rule.the-variants.{Free, UpTo, Glyph, Address, Place, Reboot, Pin}
 use Rattle.verdict.specs.declared.verdict.Verdict.the-variants.{Allowed}
 use Rattle.verdict.specs.Verdict.{wholeVerdict}
-use Rattle.verdict.proofs.table.Rule.{the-type}
+use Rattle.table.proofs.Rule.{the-type}
 use Rattle.verdict.proofs.verdict.whole.Statement.{statement}
 use Rattle.verdict.proofs.verdict.whole.Tie as tie
 

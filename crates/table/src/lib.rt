@@ -1,7 +1,7 @@
 // The table of the commands: which lengths and which data each allows.
 ghost use mathlib.Core.Path.{_≡_};
 ghost use mathlib.Core.Bool.{true};
-ghost use Rattle.verdict.specs.Table.{Looks, Allows};
+ghost use Rattle.table.specs.Table.{Looks, Allows};
 
 // The column "data allowed". Free: any bytes. UpTo(n): each byte 0 to n. Glyph: an index of a glyph, then rows. Address: an
 // address that can be read. Place: a column and a row, then any text. Reboot: 8, 18, 99. Pin: a pin, a level, a config.

@@ -1,7 +1,7 @@
 use mathlib.Core.Path.{refl}
-use Rattle.verdict.specs.Table.{configAllowed}
-use Rattle.verdict.proofs.table.config_allowed.Statement.{statement}
-use Rattle.verdict.proofs.table.config_allowed.Tie as tie
+use Rattle.table.specs.Table.{configAllowed}
+use Rattle.table.proofs.config_allowed.Statement.{statement}
+use Rattle.table.proofs.config_allowed.Tie as tie
 
 returns : tie.Need-returns
 unfolding configAllowed

@@ -4,9 +4,9 @@ use mathlib.Core.Path.{_≡_}
 use mathlib.Core.Bool.{Bool, true, false, not, _&&_}
 use mathlib.Core.List.{List, [], _∷_}
 use Rattle.lists.specs.Tests.{when_then_else_, _<?_, _=?_}
-use Rattle.verdict.specs.declared.table.Row.{Row}
-use Rattle.verdict.specs.declared.table.Rule.{Rule}
-use Rattle.verdict.specs.declared.table.Rule.the-variants.{Free, UpTo, Glyph, Address, Place, Reboot, Pin}
+use Rattle.table.specs.declared.Row.{Row}
+use Rattle.table.specs.declared.Rule.{Rule}
+use Rattle.table.specs.declared.Rule.the-variants.{Free, UpTo, Glyph, Address, Place, Reboot, Pin}
 
 -- a row: the code, the shortest and the longest length allowed, the data allowed
 pub data Entry : Type 0 where

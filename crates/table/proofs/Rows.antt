@@ -5,8 +5,8 @@ use mathlib.Core.List.{List, [], _∷_}
 use native.Mathlib.Omega.{arith}
 use borrow.Author.Tests.{ne-eqb}
 use Rattle.lists.proofs.Laws.{when-either, when-false}
-use Rattle.verdict.specs.declared.table.Row.{Row}
-use Rattle.verdict.specs.Table.{Entry, row, table, lookUp, unknown}
+use Rattle.table.specs.declared.Row.{Row}
+use Rattle.table.specs.Table.{Entry, row, table, lookUp, unknown}
 
 -- N, and x is the code of none of the rows: in the order in which a `match` on x says it
 abbrev pub None : Type 0 → List Entry → ℕ → Type 0

@@ -1,10 +1,10 @@
 use mathlib.Core.Path.{sym, _∙_}
 use borrow.Author.Needs.{needs}
 use Rattle.lists.specs.Tests.{when_then_else_}
-use Rattle.verdict.specs.Table.{table, lookUp}
-use Rattle.verdict.proofs.Rows.{no-row}
-use Rattle.verdict.proofs.table.look.Statement.{statement}
-use Rattle.verdict.proofs.table.look.Tie as tie
+use Rattle.table.specs.Table.{table, lookUp}
+use Rattle.table.proofs.Rows.{no-row}
+use Rattle.table.proofs.look.Statement.{statement}
+use Rattle.table.proofs.look.Tie as tie
 
 -- To each arm in turn: that its call asks nothing, and then that what it returns is the row of its code.
 pub look-spec : {M : Type 1} → statement M
