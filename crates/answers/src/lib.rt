@@ -1,8 +1,8 @@
 // What a call says.
 ghost use mathlib.Core.Path.{_≡_};
 ghost use Rattle.answers.specs.Answer.{Tells, Hands, Refuses};
+use filing::Refusal;
 use panel::state::Panel;
-use register::filing::Refusal;
 use verdict::verdict::Reason;
 
 // A name for each number of the paper's table. A stray, a done command and a refusal carry the command; a refusal its reason

@@ -1,7 +1,7 @@
 // Cases of the whole panel.
 use answers::Said;
+use filing::Record;
 use panel::state::Panel;
-use register::filing::Record;
 
 // A panel with its picture and its register.
 pub struct Device {

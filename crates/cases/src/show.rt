@@ -1,10 +1,10 @@
 // What a call says, and what a panel and its register hold.
 use answers::Said;
+use filing::Record;
 use panel::state::Keys;
 use panel::state::Panel;
 use panel::state::Pins;
 use panel::state::Settings;
-use register::filing::Record;
 
 // A line for a line call: its answer, the reply and the cells listed.
 pub fn line(s: Said, reply: &[u8], list: &[u8]) {

@@ -1,6 +1,6 @@
 // Calls with buffers of other sizes, states that no command sets, and counts that no case could reach by refusals.
 use crate::device::Device;
-use register::filing::Record;
+use filing::Record;
 
 // One line call on a piece of zeros, which hold no packet; the line tells, in order, the sizes of the piece, the picture, the
 // font, the list, the reply buffer and the register.

@@ -1,7 +1,7 @@
 // What the program keeps from call to call, and what it writes of each.
+use filing::Record;
 use libc::STDOUT_FILENO;
 use panel::state::Panel;
-use register::filing::Record;
 
 // `over`: the input has ended, a call was refused by number, or a reply could not be written. `waiting`: the last call found
 // no packet. `took`: the bytes that it took. `glass`: the glass is drawn.

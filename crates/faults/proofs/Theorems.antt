@@ -3,7 +3,7 @@ use Prim.Native.Nat.{ℕ}
 use mathlib.Core.List.{List}
 use Rattle.lists.specs.Promise.{Determined}
 use Rattle.lists.proofs.Theorems.{one}
-use Rattle.register.specs.declared.filing.Record.{Record}
+use Rattle.filing.specs.declared.Record.{Record}
 use Rattle.faults.specs.Faults.{ReadsFaults, WritesFaults}
 
 pub faults-read-determined : (faults : List ℕ) → Determined (ReadsFaults faults)

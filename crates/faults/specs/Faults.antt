@@ -2,7 +2,7 @@
 use Prim.Native.Nat.{ℕ}
 use mathlib.Core.Path.{_≡_}
 use mathlib.Core.List.{List}
-use Rattle.register.specs.declared.filing.Record.{Record}
+use Rattle.filing.specs.declared.Record.{Record}
 use Rattle.layout.specs.Faults.{registerOf, faultsWith}
 
 -- what `read` promises

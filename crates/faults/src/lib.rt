@@ -4,7 +4,7 @@ ghost use Prim.Native.Nat.{_+_, _*_, _≤_};
 ghost use lib.ListN.{length};
 ghost use Rattle.layout.specs.Faults.{recordBytes, recordAt};
 ghost use Rattle.faults.specs.Faults.{ReadsFaults, WritesFaults};
-use register::filing::Record;
+use filing::Record;
 
 fn record_at(faults: &[u8], i: usize) -> Record
     requires { ⌜ 7 * i + 7 ≤ length (now faults) ⌝ }

@@ -15,8 +15,8 @@ use Rattle.panel.specs.declared.state.Settings.{Settings}
 use Rattle.panel.specs.declared.state.Panel.{Panel}
 use Rattle.glyphs.proofs.Flat.{all-elements}
 use Rattle.glyphs.proofs.Every.{Every, every-all, every-append}
-use Rattle.register.specs.declared.filing.Record.{Record}
-use Rattle.register.specs.Filing.{blank}
+use Rattle.filing.specs.declared.Record.{Record}
+use Rattle.filing.specs.Filing.{blank}
 use Rattle.layout.specs.Words.{wordOf, wordBytes}
 use Rattle.layout.specs.Settings.{SettingsSized, settingsBytes, settingsOf}
 use Rattle.layout.specs.State.{bitOf, fiveBits, fiveAt, holdBytes, pinsBytes, bodyBytes, bytesOf, PanelFits, holdOf, bodyOf, panelOf, readable}

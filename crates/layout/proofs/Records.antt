@@ -8,8 +8,8 @@ use lib.ListN.{length, drop, getD, set, length-append, drop-of-length-le}
 use lib.Seq.{drop-cons, append-snoc, set-at}
 use Rattle.lists.specs.Runs.{front, pasted}
 use Rattle.lists.proofs.Laws.{front-run}
-use Rattle.register.specs.declared.filing.Record.{Record}
-use Rattle.register.specs.Filing.{blank}
+use Rattle.filing.specs.declared.Record.{Record}
+use Rattle.filing.specs.Filing.{blank}
 use Rattle.layout.specs.Faults.{recordBytes, recordAt, recordsBytes, recordsOf}
 
 pub length-records : (n : ℕ) (b : List ℕ) → length (recordsOf n b) ≡ n

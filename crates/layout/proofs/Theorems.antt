@@ -8,8 +8,8 @@ use lib.ListN.{length, getD}
 use Rattle.lists.specs.Promise.{Determined}
 use Rattle.lists.proofs.Theorems.{one}
 use Rattle.panel.specs.declared.state.Panel.{Panel}
-use Rattle.register.specs.declared.filing.Record.{Record}
-use Rattle.register.specs.Filing.{blank}
+use Rattle.filing.specs.declared.Record.{Record}
+use Rattle.filing.specs.Filing.{blank}
 use Rattle.answers.specs.declared.Numbers.{Numbers}
 use Rattle.layout.specs.Words.{ReadsWord, WritesWord}
 use Rattle.layout.specs.State.{bytesOf, panelOf, readable, PanelFits}

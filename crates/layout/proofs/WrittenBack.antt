@@ -13,7 +13,7 @@ use Rattle.lists.specs.Tests.{_=?_, _≤?_}
 use Rattle.lists.proofs.Laws.{when-true}
 use Rattle.glyphs.proofs.Flat.{elements}
 use Rattle.glyphs.proofs.Every.{all-every, every-at}
-use Rattle.register.specs.Filing.{blank}
+use Rattle.filing.specs.Filing.{blank}
 use Rattle.packets.specs.declared.hold.Hold.{Hold}
 use Rattle.layout.specs.Words.{wordOf, wordBytes}
 use Rattle.layout.specs.Settings.{run, settingsBytes, settingsOf}

@@ -4,8 +4,8 @@ use mathlib.Core.Path.{_≡_}
 use mathlib.Core.List.{List, [], _∷_, _++_}
 use lib.ListN.{length, getD, replicate}
 use Rattle.lists.specs.Tests.{when_then_else_, _=?_}
-use Rattle.register.specs.declared.filing.Record.{Record}
-use Rattle.register.specs.Filing.{blank}
+use Rattle.filing.specs.declared.Record.{Record}
+use Rattle.filing.specs.Filing.{blank}
 use Rattle.layout.specs.Words.{wordOf, wordBytes}
 
 abbrev pub recordBytes : Record → List ℕ

@@ -1,8 +1,8 @@
 // What the program keeps from call to call, and what it prints of each.
 use answers::Numbers;
 use answers::Said;
+use filing::Record;
 use panel::state::Panel;
-use register::filing::Record;
 
 // `over`: the input has ended, or a call was refused by number. `waiting`: the last call found no packet. `took`: the bytes
 // that it took. The sums are of all calls.

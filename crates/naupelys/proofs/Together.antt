@@ -16,9 +16,9 @@ use Rattle.panel.specs.declared.state.Panel.{Panel}
 use Rattle.panel.specs.State.{poweredOn}
 use Rattle.panel.specs.Ranges.{inRanges}
 use Rattle.register.specs.declared.run.FiledIn.{FiledIn}
-use Rattle.register.specs.declared.filing.Record.{Record}
-use Rattle.register.specs.Filing.{FilesBack}
-use Rattle.register.proofs.Theorems.{not-refused-changes-nothing}
+use Rattle.filing.specs.declared.Record.{Record}
+use Rattle.register.specs.Run.{FilesBack}
+use Rattle.filing.proofs.Theorems.{not-refused-changes-nothing}
 use Rattle.answers.specs.declared.Answer.{Answer}
 use Rattle.answers.specs.declared.Answer.the-variants.{Waiting, StateOutOfRange}
 use Rattle.answers.specs.declared.Said.{Said}

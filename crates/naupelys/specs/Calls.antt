@@ -8,7 +8,7 @@ use Rattle.lists.specs.Tests.{when_then_else_, _<?_, _=?_}
 use Rattle.framing.specs.declared.scan.Scanned.{Scanned}
 use Rattle.panel.specs.declared.state.Panel.{Panel}
 use Rattle.panel.specs.State.{poweredOn}
-use Rattle.register.specs.Filing.{Files, filedIf}
+use Rattle.filing.specs.Filing.{Files, filedIf}
 use Rattle.answers.specs.declared.Answer.{Answer}
 use Rattle.answers.specs.declared.Answer.the-variants.{Waiting, StateOutOfRange}
 use Rattle.answers.specs.declared.Said.{Said}

@@ -5,12 +5,13 @@ use mathlib.Core.List.{List}
 use Prim.Native.Nat.{ℕ, _<_, _≤_}
 use borrow.Author.Tests.{lt-ltb, le-ltb}
 use lib.Dec.{T}
-use lib.ListN.{length, getD, set, length-set}
+use lib.ListN.{length, getD, set}
 use Rattle.lists.specs.Tests.{when_then_else_}
-use Rattle.lists.proofs.Laws.{when-either, when-true, when-false}
-use Rattle.register.specs.declared.filing.Record.{Record}
-use Rattle.register.specs.declared.filing.Refusal.{Refusal}
-use Rattle.register.specs.Filing.{Files, blank, slot, unfiledMore, filedIn, filedAt, filed, filedIf, FilesAt, FilesIn}
+use Rattle.lists.proofs.Laws.{when-true, when-false}
+use Rattle.filing.specs.declared.Record.{Record}
+use Rattle.filing.specs.declared.Refusal.{Refusal}
+use Rattle.filing.specs.Filing.{Files, blank, slot, unfiledMore, filedIn, filedAt, filed, filedIf}
+use Rattle.register.specs.Run.{FilesAt, FilesIn}
 
 module _ (register : List Record) (k : Refusal) (unfiled : ℕ) where
   -- what the register and the unfiled number come to, as a promise says it
@@ -38,8 +39,3 @@ module _ (register : List Record) (k : Refusal) (unfiled : ℕ) where
   unfolding filedIf when_then_else_
   files-not true h = absurd h
   files-not false h = (refl, refl)
-
--- a filing changes no length
-pub length-at : (k : Refusal) (i : ℕ) (f : Files) → length (filedAt k i f .register) ≡ length (f .register)
-unfolding filedAt
-length-at k i f = when-either (λ (g : Files). length (g .register) ≡ length (f .register)) _ _ _ (λ _. simp length-set) (λ _. refl)

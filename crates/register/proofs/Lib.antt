@@ -1,4 +1,3 @@
-pub mod Counting
 pub mod Filings
 pub mod Parts
 pub mod Seeking

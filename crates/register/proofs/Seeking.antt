@@ -5,9 +5,10 @@ use Prim.Native.Nat.{ℕ, _+_}
 use native.Mathlib.Numerals.{add-one}
 use lib.ListN.{length, getD}
 use Rattle.lists.specs.First.{firstBelow}
-use Rattle.register.specs.declared.filing.Record.{Record}
-use Rattle.register.specs.declared.filing.Refusal.{Refusal}
-use Rattle.register.specs.Filing.{blank, oneMore, seenMore, seenAll, slot, slotOf}
+use Rattle.filing.specs.declared.Record.{Record}
+use Rattle.filing.specs.declared.Refusal.{Refusal}
+use Rattle.filing.specs.Filing.{blank, slot}
+use Rattle.register.specs.Run.{oneMore, seenMore, seenAll, slotOf}
 
 -- nothing is seen yet
 pub seen-none : (k : Refusal) (records : List Record) → seenAll k records 0 ≡ record { known = 0; free = 0 }

@@ -1,1 +1,1 @@
-pub mod Filing
+pub mod Run

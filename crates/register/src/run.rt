@@ -1,13 +1,14 @@
 // The functions over the run of records itself.
 ghost use mathlib.Core.Path.{_≡_};
-ghost use Rattle.register.specs.Filing.{slot, Counts, FilesAt, FilesIn, FilesBack, Empties};
-use crate::filing::Record;
-use crate::filing::Refusal;
-use crate::filing::filed_in;
-use crate::filing::unfiled_more;
+ghost use Rattle.filing.specs.Filing.{slot};
+ghost use Rattle.register.specs.Run.{Counts, FilesAt, FilesIn, FilesBack, Empties};
 use crate::search::Seen;
 use crate::search::seen_more;
 use crate::search::slot_of;
+use filing::Record;
+use filing::Refusal;
+use filing::filed_in;
+use filing::unfiled_more;
 
 // A run of 64 records and the unfiled number after a filing.
 pub struct FiledIn {

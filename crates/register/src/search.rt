@@ -1,9 +1,10 @@
 // The search for the record to file in, one record at a time: all on plain values.
 ghost use mathlib.Core.Path.{_≡_};
 ghost use Prim.Native.Nat.{_<_, _+_, _^_};
-ghost use Rattle.register.specs.Filing.{isFree, isWith, oneMore, seenMore, slotOf};
-use crate::filing::Record;
-use crate::filing::Refusal;
+ghost use Rattle.filing.specs.Filing.{isFree, isWith};
+ghost use Rattle.register.specs.Run.{oneMore, seenMore, slotOf};
+use filing::Record;
+use filing::Refusal;
 
 // What a search of the first records shows: the first in use with the key, and the first free one; where there is none,
 // as many records as were seen.

@@ -8,10 +8,10 @@ use lib.ListN.{length}
 use Rattle.lists.specs.Tests.{when_then_else_}
 use Rattle.panel.specs.declared.state.Panel.{Panel}
 use Rattle.panel.specs.State.{poweredOn}
-use Rattle.register.specs.declared.filing.Record.{Record}
-use Rattle.register.specs.declared.filing.Refusal.{Refusal}
-use Rattle.register.specs.Filing.{Files, filedIf, total, most}
-use Rattle.register.proofs.Theorems.{one-more}
+use Rattle.filing.specs.declared.Record.{Record}
+use Rattle.filing.specs.declared.Refusal.{Refusal}
+use Rattle.filing.specs.Filing.{Files, filedIf, total, most}
+use Rattle.filing.proofs.Theorems.{one-more}
 use Rattle.answers.specs.declared.Answer.{Answer}
 use Rattle.answers.specs.declared.Said.{Said}
 use Rattle.answers.specs.Answer.{Check, decided, refusedCall, filingOf}

@@ -5,7 +5,7 @@ use mathlib.Core.List.{List, []}
 use lib.ListN.{length}
 use Rattle.panel.specs.declared.state.Settings.{Settings}
 use Rattle.panel.specs.declared.state.Panel.{Panel}
-use Rattle.register.specs.declared.filing.Record.{Record}
+use Rattle.filing.specs.declared.Record.{Record}
 use Rattle.answers.specs.declared.Said.{Said}
 use Rattle.answers.specs.Answer.{Check, decided, refusedCall}
 use Rattle.events.specs.Keys.{keyChecks}

@@ -19,8 +19,8 @@ use Rattle.framing.proofs.Theorems as framing
 use Rattle.panel.specs.declared.state.Body.{Body}
 use Rattle.panel.specs.declared.state.Panel.{Panel}
 use Rattle.panel.specs.Ranges.{inRanges}
-use Rattle.register.specs.Filing.{Files, filedIf}
-use Rattle.register.proofs.Theorems.{length-filed}
+use Rattle.filing.specs.Filing.{Files, filedIf}
+use Rattle.filing.proofs.Theorems.{length-filed}
 use Rattle.answers.specs.declared.Answer.{Answer}
 use Rattle.answers.specs.declared.Answer.the-variants.{Waiting}
 use Rattle.answers.specs.declared.Said.{Said}

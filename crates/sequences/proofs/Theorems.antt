@@ -8,8 +8,8 @@ use lib.Dec.{lit≤}
 use lib.ListN.{length}
 use Rattle.panel.specs.declared.state.Panel.{Panel}
 use Rattle.panel.specs.Ranges.{inRanges}
-use Rattle.register.specs.declared.filing.Record.{Record}
-use Rattle.register.specs.Filing.{counts}
+use Rattle.filing.specs.declared.Record.{Record}
+use Rattle.filing.specs.Filing.{counts}
 use Rattle.framing.proofs.Theorems as framing
 use Rattle.answers.specs.declared.Said.{Said}
 use Rattle.answers.specs.Answer.{numbersOf}

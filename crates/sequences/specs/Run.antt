@@ -7,8 +7,8 @@ use mathlib.Core.List.{List, [], _∷_}
 use lib.ListN.{length}
 use Rattle.lists.specs.Tests.{when_then_else_}
 use Rattle.panel.specs.declared.state.Panel.{Panel}
-use Rattle.register.specs.declared.filing.Record.{Record}
-use Rattle.register.specs.Filing.{Files}
+use Rattle.filing.specs.declared.Record.{Record}
+use Rattle.filing.specs.Filing.{Files}
 use Rattle.answers.specs.declared.Said.{Said}
 use Rattle.answers.specs.Answer.{filingOf}
 use Rattle.events.specs.Keys.{Presses}

@@ -3,8 +3,9 @@ use Prim.Native.Nat.{ℕ}
 use mathlib.Core.Path.{_≡_, _∙_, ap}
 use mathlib.Core.List.{List}
 use Rattle.panel.specs.declared.state.Panel.{Panel}
-use Rattle.register.specs.declared.filing.Record.{Record}
-use Rattle.register.specs.Filing.{Files, filedIf, FilesIn}
+use Rattle.filing.specs.declared.Record.{Record}
+use Rattle.filing.specs.Filing.{Files, filedIf}
+use Rattle.register.specs.Run.{FilesIn}
 use Rattle.answers.specs.declared.Said.{Said}
 use Rattle.answers.specs.declared.Filing.{Filing}
 use Rattle.picture.specs.Calls.{Lent, lineSaid}

@@ -7,7 +7,7 @@ use native.Mathlib.Omega.{arith}
 use lib.ListN.{length, getD}
 use Rattle.lists.specs.Promise.{Determined}
 use Rattle.panel.specs.declared.state.Panel.{Panel}
-use Rattle.register.specs.declared.filing.Record.{Record}
+use Rattle.filing.specs.declared.Record.{Record}
 use Rattle.packets.specs.Hold.{held}
 use Rattle.framing.proofs.Theorems as framing
 use Rattle.answers.specs.declared.Said.{Said}

@@ -3,8 +3,8 @@ use Prim.Native.Nat.{ℕ}
 use mathlib.Core.Path.{_≡_}
 use mathlib.Core.List.{List}
 use Rattle.panel.specs.declared.state.Panel.{Panel}
-use Rattle.register.specs.declared.filing.Record.{Record}
-use Rattle.register.specs.Filing.{Files, filedIf}
+use Rattle.filing.specs.declared.Record.{Record}
+use Rattle.filing.specs.Filing.{Files, filedIf}
 use Rattle.answers.specs.declared.Said.{Said}
 use Rattle.answers.specs.Answer.{filingOf}
 use Rattle.picture.specs.Calls.{Lent, lineSaid, linePicture, lineList, lineReply, Lines}

@@ -6,7 +6,7 @@ use native.Mathlib.Omega.{arith}
 use borrow.Author.Needs.{needs}
 use borrow.Author.Tests.{eq-eqb, ne-eqb}
 use Rattle.lists.proofs.Laws.{when-true, when-false, whole-front}
-use Rattle.register.specs.Filing.{blank}
+use Rattle.filing.specs.Filing.{blank}
 use Rattle.layout.specs.Faults.{recordsOf, registerOf}
 use Rattle.layout.proofs.Records.{read-turn, read-all}
 use Rattle.faults.proofs.read.Statement.{statement}

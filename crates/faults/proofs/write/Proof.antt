@@ -6,7 +6,7 @@ use native.Mathlib.Omega.{arith}
 use borrow.Author.Needs.{needs}
 use borrow.Author.Tests.{eq-eqb, ne-eqb}
 use Rattle.lists.proofs.Laws.{when-true, when-false, whole-front}
-use Rattle.register.specs.Filing.{blank}
+use Rattle.filing.specs.Filing.{blank}
 use Rattle.lists.specs.Runs.{front, pasted}
 use Rattle.layout.specs.Faults.{recordsBytes, faultsWith}
 use Rattle.layout.proofs.Records.{write-turn, length-bytes}

@@ -39,27 +39,28 @@ use denote.Triple.Entry.{onEntry}
 use denote.Triple.Spec.{Meets, tripleOf}
 use denote.Triple.Table.{entered, cited}
 use denote.Triple.Walked.{says, Stays, gave-slice, stay-dropped, walkOf, ends-at, goes-gave-slice}
-use Rattle.register.specs.declared.filing.Record.{Record}
-use Rattle.register.specs.declared.filing.Refusal.{Refusal}
-use Rattle.register.specs.declared.filing.Filed.{Filed}
-use Rattle.register.specs.Filing.{blank, unfiledMore, filedIn, FilesAt}
+use Rattle.filing.specs.declared.Record.{Record}
+use Rattle.filing.specs.declared.Refusal.{Refusal}
+use Rattle.filing.specs.declared.Filed.{Filed}
+use Rattle.filing.specs.Filing.{blank, unfiledMore, filedIn}
+use Rattle.register.specs.Run.{FilesAt}
 use Rattle.register.proofs.Filings.{files-inside, files-past}
 use Rattle.register.proofs.Parts.{copied-part}
 use Rattle.register.proofs.Walks.{env, locals, in-order, span, frees-all, gives-up, copied, sets, leaves-lent, asks-plain, hears, hears-last, gone, meets}
-use Rattle.register.proofs.filing.Record as T
-use Rattle.register.proofs.filing.Record.Laws as T′
-use Rattle.register.proofs.filing.Refusal as K
-use Rattle.register.proofs.filing.Refusal.Laws as K′
-use Rattle.register.proofs.filing.Filed as F
-use Rattle.register.proofs.filing.Filed.Laws as F′
-use Rattle.register.proofs.filing.filed_in as filed-in
-use Rattle.register.proofs.filing.filed_in.Symbol as filed-in-def
-use Rattle.register.proofs.filing.filed_in.Symbol.{name as #filed-in}
-use Rattle.register.proofs.filing.filed_in.Met as filed-in-thm
-use Rattle.register.proofs.filing.unfiled_more as unfiled-more
-use Rattle.register.proofs.filing.unfiled_more.Symbol as unfiled-more-def
-use Rattle.register.proofs.filing.unfiled_more.Symbol.{name as #unfiled-more}
-use Rattle.register.proofs.filing.unfiled_more.Met as unfiled-more-thm
+use Rattle.filing.proofs.Record as T
+use Rattle.filing.proofs.Record.Laws as T′
+use Rattle.filing.proofs.Refusal as K
+use Rattle.filing.proofs.Refusal.Laws as K′
+use Rattle.filing.proofs.Filed as F
+use Rattle.filing.proofs.Filed.Laws as F′
+use Rattle.filing.proofs.filed_in as filed-in
+use Rattle.filing.proofs.filed_in.Symbol as filed-in-def
+use Rattle.filing.proofs.filed_in.Symbol.{name as #filed-in}
+use Rattle.filing.proofs.filed_in.Met as filed-in-thm
+use Rattle.filing.proofs.unfiled_more as unfiled-more
+use Rattle.filing.proofs.unfiled_more.Symbol as unfiled-more-def
+use Rattle.filing.proofs.unfiled_more.Symbol.{name as #unfiled-more}
+use Rattle.filing.proofs.unfiled_more.Met as unfiled-more-thm
 use Rattle.register.proofs.run.bump.Key.{name as #bump}
 use Rattle.register.proofs.run.bump as bump
 use Rattle.register.proofs.run.bump.Statement as stated
@@ -240,7 +241,7 @@ bump-spec 𝓤 H 𝓜 𝓖 𝓡 =
     entered 𝓤 H (tripleOf 𝓤 H (𝓖 .A) bump.signature (bump.spec 𝓤 H (𝓖 .A) (𝓜 .mem) (𝓡 .run)))
     (tables 𝓤 H 𝓜 𝓡 code.env .C) (tables 𝓤 H 𝓜 𝓡 code.env .Λ) #bump code.function (code.unfolded 𝓤 H 𝓜 𝓡)
     (bump-meets 𝓤 H (𝓖 .A) (givenOf 𝓤 H 𝓜 𝓖) (𝓜 .mem) (𝓡 .run) (tablesOf 𝓤 H 𝓜 (tables 𝓤 H 𝓜 𝓡 code.env))
-    (cited 𝓤 H (FiledIn 𝓤 H (𝓖 .A) (𝓜 .mem) (𝓡 .run)) 𝓜 𝓡 code.env #filed-in filed-in-def.routine code.calls-register·filing·filed-in
+    (cited 𝓤 H (FiledIn 𝓤 H (𝓖 .A) (𝓜 .mem) (𝓡 .run)) 𝓜 𝓡 code.env #filed-in filed-in-def.routine code.calls-filing·filed-in
     (filed-in-thm.met 𝓤 H 𝓜 𝓖 𝓡))
-    (cited 𝓤 H (Unfiled 𝓤 H (𝓖 .A) (𝓜 .mem) (𝓡 .run)) 𝓜 𝓡 code.env #unfiled-more unfiled-more-def.routine code.calls-register·filing·unfiled-more
+    (cited 𝓤 H (Unfiled 𝓤 H (𝓖 .A) (𝓜 .mem) (𝓡 .run)) 𝓜 𝓡 code.env #unfiled-more unfiled-more-def.routine code.calls-filing·unfiled-more
     (unfiled-more-thm.met 𝓤 H 𝓜 𝓖 𝓡)))

@@ -43,15 +43,16 @@ use denote.Triple.Entry.{onEntry}
 use denote.Triple.Spec.{Meets, tripleOf}
 use denote.Triple.Table.{entered, cited}
 use denote.Triple.Walked.{says, Stays, gave-slice, stay-dropped, walkOf, ends-at, goes-gave-slice}
-use Rattle.register.specs.declared.filing.Record.{Record}
-use Rattle.register.specs.declared.filing.Refusal.{Refusal}
-use Rattle.register.specs.Filing.{slot, FilesAt, FilesIn}
+use Rattle.filing.specs.declared.Record.{Record}
+use Rattle.filing.specs.declared.Refusal.{Refusal}
+use Rattle.filing.specs.Filing.{slot}
+use Rattle.register.specs.Run.{FilesAt, FilesIn}
 use Rattle.register.proofs.Filings.{files-refused, files-not}
 use Rattle.register.proofs.Parts.{copied-part}
 use Rattle.register.proofs.Walks.{env, locals, in-order, span, frees-all, gives-up, copied, sets, leaves-lent, asks-lent, hears, learns-last, gone, meets}
-use Rattle.register.proofs.filing.Record as T
-use Rattle.register.proofs.filing.Refusal as K
-use Rattle.register.proofs.filing.Refusal.Laws as K′
+use Rattle.filing.proofs.Record as T
+use Rattle.filing.proofs.Refusal as K
+use Rattle.filing.proofs.Refusal.Laws as K′
 use Rattle.register.proofs.run.find as find
 use Rattle.register.proofs.run.find.Symbol as find-def
 use Rattle.register.proofs.run.find.Symbol.{name as #find}

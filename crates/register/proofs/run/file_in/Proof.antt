@@ -50,15 +50,15 @@ use denote.Triple.Entry.{onEntry}
 use denote.Triple.Spec.{Meets, tripleOf}
 use denote.Triple.Table.{entered, cited}
 use denote.Triple.Walked.{says, Stays, stay-dropped, walkOf, ends-at, goes-dropped}
-use Rattle.register.specs.declared.filing.Record.{Record}
-use Rattle.register.specs.declared.filing.Refusal.{Refusal}
+use Rattle.filing.specs.declared.Record.{Record}
+use Rattle.filing.specs.declared.Refusal.{Refusal}
 use Rattle.register.specs.declared.run.FiledIn.{FiledIn}
-use Rattle.register.specs.Filing.{FilesIn}
+use Rattle.register.specs.Run.{FilesIn}
 use Rattle.register.proofs.Walks.{in-order, span, frees-all, copied, sets, asks-lent, learns, gone, meets}
-use Rattle.register.proofs.filing.Record as T
-use Rattle.register.proofs.filing.Record.Laws as T′
-use Rattle.register.proofs.filing.Refusal as K
-use Rattle.register.proofs.filing.Refusal.Laws as K′
+use Rattle.filing.proofs.Record as T
+use Rattle.filing.proofs.Record.Laws as T′
+use Rattle.filing.proofs.Refusal as K
+use Rattle.filing.proofs.Refusal.Laws as K′
 use Rattle.register.proofs.run.FiledIn as F
 use Rattle.register.proofs.run.FiledIn.Laws as F′
 use Rattle.register.proofs.run.file as file

@@ -49,17 +49,18 @@ use denote.Triple.Entry.{onEntry}
 use denote.Triple.Spec.{Meets, tripleOf}
 use denote.Triple.Table.{entered, cited}
 use denote.Triple.Walked.{says, Stays, stay-dropped, walkOf, ends-at, goes-dropped}
-use Rattle.register.specs.declared.filing.Record.{Record}
-use Rattle.register.specs.declared.filing.Refusal.{Refusal}
+use Rattle.filing.specs.declared.Record.{Record}
+use Rattle.filing.specs.declared.Refusal.{Refusal}
 use Rattle.register.specs.declared.search.Seen.{Seen}
-use Rattle.register.specs.Filing.{blank, seenMore, seenAll, slotOf, slot}
+use Rattle.filing.specs.Filing.{blank, slot}
+use Rattle.register.specs.Run.{seenMore, seenAll, slotOf}
 use Rattle.register.proofs.Seeking.{seen-none, seen-next, seen-slot}
 use Rattle.register.proofs.Parts.{copied-part}
 use Rattle.register.proofs.Walks.{env, locals, in-order, span, frees-all, copied, sets, asks-plain, hears, gone, meets}
-use Rattle.register.proofs.filing.Record as T
-use Rattle.register.proofs.filing.Record.Laws as T′
-use Rattle.register.proofs.filing.Refusal as K
-use Rattle.register.proofs.filing.Refusal.Laws as K′
+use Rattle.filing.proofs.Record as T
+use Rattle.filing.proofs.Record.Laws as T′
+use Rattle.filing.proofs.Refusal as K
+use Rattle.filing.proofs.Refusal.Laws as K′
 use Rattle.register.proofs.search.Seen as S
 use Rattle.register.proofs.search.Seen.Laws as S′
 use Rattle.register.proofs.search.seen_more as more

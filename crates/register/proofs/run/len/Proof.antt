@@ -30,10 +30,10 @@ use denote.Triple.Entry.{onEntry}
 use denote.Triple.Spec.{Meets, tripleOf}
 use denote.Triple.Table.{entered}
 use denote.Triple.Walked.{says, Stays, stay-dropped, walkOf, ends-at, goes-dropped}
-use Rattle.register.specs.declared.filing.Record.{Record}
+use Rattle.filing.specs.declared.Record.{Record}
 use Rattle.register.proofs.Parts.{copied-part}
 use Rattle.register.proofs.Walks.{in-order, frees-all, sets, meets}
-use Rattle.register.proofs.filing.Record as T
+use Rattle.filing.proofs.Record as T
 use Rattle.register.proofs.run.len.Key.{name as #len}
 use Rattle.register.proofs.run.len as len
 use Rattle.register.proofs.run.len.Statement as stated

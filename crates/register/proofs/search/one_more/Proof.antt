@@ -1,7 +1,7 @@
 use borrow.Author.Needs.{needs}
 use borrow.Author.Tests.{lt-ltb, le-ltb}
 use Rattle.lists.specs.Tests.{when_then_else_}
-use Rattle.register.specs.Filing.{oneMore}
+use Rattle.register.specs.Run.{oneMore}
 use Rattle.register.proofs.search.one_more.Statement.{statement}
 use Rattle.register.proofs.search.one_more.Tie as tie
 

@@ -1,6 +1,6 @@
 use borrow.Author.Tests.{lt-ltb, le-ltb}
 use Rattle.lists.specs.Tests.{when_then_else_}
-use Rattle.register.specs.Filing.{slotOf}
+use Rattle.register.specs.Run.{slotOf}
 use Rattle.register.proofs.search.slot_of.Statement.{statement}
 use Rattle.register.proofs.search.slot_of.Tie as tie
 

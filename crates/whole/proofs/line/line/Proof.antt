@@ -45,9 +45,9 @@ use denote.Triple.Spec.{Meets, tripleOf}
 use denote.Triple.Table.{entered, cited}
 use denote.Triple.Walked.{says, Stays, gave-slice, stay-dropped, walkOf, ends-at, goes-gave-slice, goes-dropped}
 use Rattle.panel.specs.declared.state.Panel.{Panel}
-use Rattle.register.specs.declared.filing.Record.{Record}
-use Rattle.register.specs.declared.filing.Refusal.{Refusal}
-use Rattle.register.specs.Filing.{FilesIn}
+use Rattle.filing.specs.declared.Record.{Record}
+use Rattle.filing.specs.declared.Refusal.{Refusal}
+use Rattle.register.specs.Run.{FilesIn}
 use Rattle.answers.specs.declared.Said.{Said}
 use Rattle.picture.specs.Calls.{Lent, lent}
 use Rattle.whole.specs.declared.line.Heard.{Heard}
@@ -57,9 +57,9 @@ use Rattle.register.proofs.Walks.{in-order, span, frees-all, copied, sets, asks
 use Rattle.whole.proofs.LineCalls.{put-together}
 use Rattle.panel.proofs.state.Panel as P
 use Rattle.panel.proofs.state.Panel.Laws as P′
-use Rattle.register.proofs.filing.Record as T
-use Rattle.register.proofs.filing.Refusal as K
-use Rattle.register.proofs.filing.Refusal.Laws as K′
+use Rattle.filing.proofs.Record as T
+use Rattle.filing.proofs.Refusal as K
+use Rattle.filing.proofs.Refusal.Laws as K′
 use Rattle.answers.proofs.Filing as F
 use Rattle.answers.proofs.Filing.Laws as F′
 use Rattle.answers.proofs.Said as S

@@ -1,9 +1,9 @@
 use borrow.Author.Needs.{needs}
 use borrow.Author.Tests.{lt-ltb, le-ltb}
 use Rattle.lists.specs.Tests.{when_then_else_}
-use Rattle.register.specs.Filing.{filedIn}
-use Rattle.register.proofs.filing.filed_in.Statement.{statement}
-use Rattle.register.proofs.filing.filed_in.Tie as tie
+use Rattle.filing.specs.Filing.{filedIn}
+use Rattle.filing.proofs.filed_in.Statement.{statement}
+use Rattle.filing.proofs.filed_in.Tie as tie
 
 add-count : tie.Need-add-count
 add-count c = search needs

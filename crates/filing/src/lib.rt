@@ -1,5 +1,5 @@
 // What filing does with one record, and with the unfiled number: all on plain values.
-ghost use Rattle.register.specs.Filing.{FilesOne, Unfiles};
+ghost use Rattle.filing.specs.Filing.{FilesOne, Unfiles};
 
 // A record of the register. A count of 0 makes it free, whatever its key.
 pub struct Record {

@@ -3,14 +3,12 @@ use Prim.Native.Nat.{ℕ, _+_, min}
 use mathlib.Core.Path.{_≡_}
 use mathlib.Core.Bool.{Bool, not, _&&_}
 use mathlib.Core.List.{List, [], _∷_}
-use lib.ListN.{length, getD, set, replicate}
+use lib.ListN.{length, getD, set}
 use Rattle.lists.specs.Tests.{when_then_else_, _<?_, _=?_}
 use Rattle.lists.specs.First.{firstBelow}
-use Rattle.register.specs.declared.filing.Record.{Record}
-use Rattle.register.specs.declared.filing.Refusal.{Refusal}
-use Rattle.register.specs.declared.filing.Filed.{Filed}
-use Rattle.register.specs.declared.search.Seen.{Seen}
-use Rattle.register.specs.declared.run.FiledIn.{FiledIn}
+use Rattle.filing.specs.declared.Record.{Record}
+use Rattle.filing.specs.declared.Refusal.{Refusal}
+use Rattle.filing.specs.declared.Filed.{Filed}
 
 -- the register, and the panel's own number of what could not be filed
 pub record Files : Type 0 where
@@ -40,20 +38,6 @@ unfoldable pub slot : Refusal → List Record → ℕ
 slot k records =
     when firstRecord (isWith k) records (length records) <? length records then firstRecord (isWith k) records (length records)
     else firstRecord isFree records (length records)
-
--- the same as a search shows it: the first that passes among the first i + 1, where it is `first` among the first i
-unfoldable pub oneMore : ℕ → ℕ → Bool → ℕ
-oneMore first i passes = when first <? i then first else when passes then i else i + 1
-
-abbrev pub seenMore : Seen → ℕ → Refusal → Record → Seen
-seenMore s i k r = record { known = oneMore (s .known) i (isWith k r); free = oneMore (s .free) i (isFree r) }
-
-unfoldable pub slotOf : Seen → ℕ → ℕ
-slotOf s n = when s .known <? n then s .known else s .free
-
--- what the first n records show
-abbrev pub seenAll : Refusal → List Record → ℕ → Seen
-seenAll k records n = record { known = firstRecord (isWith k) records n; free = firstRecord isFree records n }
 
 -- "stops there too"
 abbrev pub unfiledMore : ℕ → ℕ
@@ -103,29 +87,3 @@ FilesOne k r unfiled q = q ≡ filedIn k r unfiled
 -- what `unfiled_more` promises
 abbrev pub Unfiles : ℕ → ℕ → Type 0
 Unfiles unfiled r = r ≡ unfiledMore unfiled
-
--- what `len` promises
-abbrev pub Counts : List Record → ℕ → Type 0
-Counts register r = r ≡ length register
-
--- what `bump` promises of the unfiled number that it returns and of the register
-abbrev pub FilesAt : List Record → ℕ → Refusal → ℕ → ℕ → List Record → Type 0
-FilesAt register i k unfiled r register′ =
-    (r ≡ filedAt k i (record { register = register; unfiled = unfiled }) .unfiled)
-    × (register′ ≡ filedAt k i (record { register = register; unfiled = unfiled }) .register)
-
--- what `file` promises of the unfiled number that it returns and of the register
-abbrev pub FilesIn : List Record → Bool → Refusal → ℕ → ℕ → List Record → Type 0
-FilesIn register refused k unfiled r register′ =
-    (r ≡ filedIf refused k (record { register = register; unfiled = unfiled }) .unfiled)
-    × (register′ ≡ filedIf refused k (record { register = register; unfiled = unfiled }) .register)
-
--- what `file_in` promises
-abbrev pub FilesBack : List Record → Bool → Refusal → ℕ → FiledIn → Type 0
-FilesBack register refused k unfiled r =
-    let f = filedIf refused k (record { register = register; unfiled = unfiled }) in
-    r ≡ record { register = f .register; unfiled = f .unfiled }
-
--- what `empty` promises
-abbrev pub Empties : List Record → Type 0
-Empties r = r ≡ replicate 64 blank

@@ -7,10 +7,10 @@ use native.Mathlib.Omega.{arith}
 use borrow.Author.Tests.{ltb-true, eqb-true}
 use lib.ListN.{length, getD, set}
 use Rattle.lists.proofs.Laws.{when-either}
-use Rattle.register.specs.declared.filing.Record.{Record}
-use Rattle.register.specs.declared.filing.Refusal.{Refusal}
-use Rattle.register.specs.declared.filing.Filed.{Filed}
-use Rattle.register.specs.Filing.{Files, blank, most, isFree, filedIn, filedAt, filed, filedAll, counts, total}
+use Rattle.filing.specs.declared.Record.{Record}
+use Rattle.filing.specs.declared.Refusal.{Refusal}
+use Rattle.filing.specs.declared.Filed.{Filed}
+use Rattle.filing.specs.Filing.{Files, blank, most, isFree, filedIn, filedAt, filed, filedAll, counts, total}
 
 -- one record replaced changes the sum by that record
 counts-set : (records : List Record) (i : ℕ) (r : Record) → i < length records
