@@ -1,5 +1,6 @@
 use mathlib.Core.Path.{_≡_, _∙_}
 use native.Mathlib.Omega.{arith}
+use lib.ListN.{getD}
 use Rattle.layout.proofs.Laid.{copied}
 use Rattle.layout.specs.Settings.{settingsOf}
 use borrow.Author.Needs.{needs}
@@ -95,7 +96,23 @@ unfolding settingsOf
 returns c =
     let b = c .before .before .before .before .before .before .before .before .before .before .before .before .before .before .before .before .before .before .before .before .before .before .before .before .args .bytes .now in
     let l = c .before .before .before .before .before .before .before .before .before .before .before .before .before .before .before .before .before .before .before .before .before .before .before .before .pre in
-    rw (c .before .before .before .before .before .before .before .before .before .before .before .before .before .before .before .before .before .before .before .before .paste .ensures ∙ copied b 0 80 (omega arith), c .before .before .before .before .before .before .before .before .before .before .before .before .before .before .before .before .paste2 .ensures ∙ copied b 80 64 (omega arith), c .before .before .before .before .before .before .before .before .before .before .before .before .paste3 .ensures ∙ copied b 151 13 (omega arith), c .before .before .before .before .before .before .before .before .paste4 .ensures ∙ copied b 164 5 (omega arith))
+    let text = c .before .before .before .before .before .before .before .before .before .before .before .before .before .before .before .before .before .before .before .before .paste .ensures ∙ copied b 0 80 (omega arith) in
+    let glyphs = c .before .before .before .before .before .before .before .before .before .before .before .before .before .before .before .before .paste2 .ensures ∙ copied b 80 64 (omega arith) in
+    let levels = c .before .before .before .before .before .before .before .before .before .before .before .before .paste3 .ensures ∙ copied b 151 13 (omega arith) in
+    let configs = c .before .before .before .before .before .before .before .before .paste4 .ensures ∙ copied b 164 5 (omega arith) in
+    λ i. record {
+      text = text i;
+      glyphs = glyphs i;
+      column = getD b 144 0;
+      row = getD b 145 0;
+      style = getD b 146 0;
+      contrast = getD b 147 0;
+      backlight = getD b 148 0;
+      press = getD b 149 0;
+      release = getD b 150 0;
+      levels = levels i;
+      configs = configs i;
+    }
 
 pub settings-of-spec : {M : Type 1} → statement M
 settings-of-spec =
