@@ -41,22 +41,6 @@ pub fn powered_on(font: &[u8]) -> Device {
     }
 }
 
-// The device after a call, with a refusal filed.
-fn filed(said: Said, screen: [u8; 640], records: [Record; 64]) -> Device {
-    let mut panel = said.panel;
-    let answer = said.answer;
-    let f = answers::to_file(answer);
-    let key = f.key;
-    let r = register::run::file_in(records, f.refused, key, panel.unfiled);
-    panel.unfiled = r.unfiled;
-    let left = r.register;
-    Device {
-        panel,
-        picture: screen,
-        register: left,
-    }
-}
-
 fn is_packet(number: u8) -> bool {
     (2 <= number) & (number <= 4)
 }
@@ -67,14 +51,29 @@ fn call(before: Device, piece: &[u8], font: &[u8]) -> Called {
     let mut list = [0u8; 80];
     let mut reply = [0u8; 26];
     let panel = before.panel;
-    let s = picture::calls::line(panel, piece, &mut screen, font, &mut list, &mut reply, 64);
+    let records = before.register;
+    let w = whole::line::line_in(
+        panel,
+        piece,
+        &mut screen,
+        font,
+        &mut list,
+        &mut reply,
+        records,
+    );
+    let s = w.said;
     let answer = s.answer;
     let n = answers::told(answer);
     if n.number != 1 {
         crate::show::line(s, &reply, &list);
     }
-    let records = before.register;
-    let device = filed(s, screen, records);
+    let after = s.panel;
+    let left = w.register;
+    let device = Device {
+        panel: after,
+        picture: screen,
+        register: left,
+    };
     Called {
         device,
         taken: s.taken,
