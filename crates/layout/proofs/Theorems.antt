@@ -6,15 +6,16 @@ use mathlib.Core.List.{List}
 use native.Mathlib.Omega.{arith}
 use lib.ListN.{length, getD}
 use Rattle.lists.specs.Promise.{Determined}
-use Rattle.lists.proofs.Theorems.{one}
+use Rattle.lists.proofs.Theorems.{one, and}
 use Rattle.panel.specs.declared.state.Panel.{Panel}
 use Rattle.filing.specs.declared.Record.{Record}
 use Rattle.filing.specs.Filing.{blank}
+use Rattle.answers.specs.declared.Answer.{Answer}
 use Rattle.answers.specs.declared.Numbers.{Numbers}
 use Rattle.layout.specs.Words.{ReadsWord, WritesWord}
 use Rattle.layout.specs.State.{bytesOf, panelOf, readable, PanelFits}
 use Rattle.layout.specs.Faults.{registerBytes, registerOf}
-use Rattle.layout.specs.Says.{saidBytes, Says}
+use Rattle.layout.specs.Says.{saidBytes, Says, Refuses}
 use Rattle.layout.proofs.ReadBack.{panel-back, readable-back, register-back, word-back}
 use Rattle.layout.proofs.WrittenBack.{bytes-back, faults-back}
 
@@ -55,3 +56,6 @@ word-of-determined a b c d = one _
 
 pub word-bytes-determined : (n : ℕ) → Determined (WritesWord n)
 word-bytes-determined n = one _
+
+pub says-refused-determined : (answer : Answer) → Determined (λ (x : ℕ × List ℕ). Refuses answer (x .0) (x .1))
+says-refused-determined answer = and (one _) (one _)

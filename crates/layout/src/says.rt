@@ -1,5 +1,6 @@
 // What a call says, as 16 bytes.
-ghost use Rattle.layout.specs.Says.{Says};
+ghost use Rattle.layout.specs.Says.{Says, Refuses};
+use answers::Answer;
 use answers::Numbers;
 
 // The numbers of the answer, the bytes taken, dropped and run through the checksum, the reply's length and the cells listed.
@@ -32,4 +33,13 @@ pub fn write(
         0,
         0,
     ];
+}
+
+// A call that is refused by number: nothing is changed, and all counts are 0.
+pub fn refused(said: &mut [u8; 16], answer: Answer) -> u8
+    ensures { λ r. ⌜ Refuses answer r (now (said .exit)) ⌝ }
+{
+    let n = answers::told(answer);
+    write(said, n, 0, 0, 0, 0, 0);
+    n.number
 }

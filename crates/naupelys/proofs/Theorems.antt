@@ -1,12 +1,11 @@
 -- What holds of the four calls over and above their own promises.
 use Prim.Native.Nat.{ℕ, _≤_}
-use mathlib.Core.Path.{_≡_, refl, sym, _∙_}
+use mathlib.Core.Path.{_≡_, refl, _∙_}
 use mathlib.Core.Bool.{Bool, true, false}
 use mathlib.Core.List.{List}
 use native.Mathlib.Omega.{arith}
 use borrow.Author.Tests.{le-ltb, ne-eqb}
 use lib.ListN.{length, drop, length-take}
-use Rattle.lists.specs.Promise.{Determined}
 use Rattle.lists.proofs.Laws.{when-true, when-false}
 use Rattle.panel.specs.declared.state.Panel.{Panel}
 use Rattle.answers.specs.declared.Said.{Said}
@@ -18,7 +17,9 @@ use Rattle.whole.proofs.Theorems.{refused-call-changes-nothing}
 use Rattle.layout.specs.State.{holdOf, panelOf, readable}
 use Rattle.layout.specs.Faults.{registerOf}
 use Rattle.naupelys.proofs.Counts.{said-back, line-fits, key-fits, pin-fits}
-use Rattle.naupelys.specs.Calls.{numberOf, ReadFrom, onState, stateAfter, faultsAfter, lineFiled, PowerOnBytes, LineBytes, KeyBytes, PinBytes}
+use Rattle.othercalls.specs.Calls.{numberOf, onState, stateAfter, KeyBytes, PinBytes}
+use Rattle.linecall.specs.Line.{faultsAfter, lineFiled, LineBytes}
+use Rattle.naupelys.specs.Calls.{ReadFrom}
 
 on-no : {A : Type 0} (state : List ℕ) (x : A) (f : Panel → A) → readable state ≡ false → onState state x f ≡ x
 unfolding onState
@@ -103,20 +104,3 @@ pub pin-says : (state : List ℕ) (pin : ℕ) (high : Bool) (number : ℕ) (stat
     → ReadFrom said′ (pinSaid (panelOf state) pin high)
 pin-says state pin high number state′ said′ called e =
     said-back (pinSaid (panelOf state) pin high) said′ (called .2 ∙ on-yes _ _ _ e) (pin-fits (panelOf state) pin high)
-
--- For each call, any two results that its promise allows are equal: the number, the state, every buffer and what it says.
-pub power-on-determined : (state picture font : List ℕ)
-    → Determined (λ (x : ℕ × List ℕ × List ℕ × List ℕ). PowerOnBytes state picture font (x .0) (x .1) (x .2) (x .3))
-power-on-determined state picture font x y e f = λ i. ((e .0 ∙ sym (f .0)) i, (e .1 ∙ sym (f .1)) i, (e .2 ∙ sym (f .2)) i, (e .3 ∙ sym (f .3)) i)
-
-pub line-determined : (state : List ℕ) (l : Lent) (faults : List ℕ)
-    → Determined (λ (x : ℕ × List ℕ × List ℕ × List ℕ × List ℕ × List ℕ × List ℕ). LineBytes state l faults (x .0) (x .1) (x .2) (x .3) (x .4) (x .5) (x .6))
-line-determined state l faults x y e f =
-    λ i. ((e .0 ∙ sym (f .0)) i, (e .1 ∙ sym (f .1)) i, (e .2 ∙ sym (f .2)) i, (e .3 ∙ sym (f .3)) i, (e .4 ∙ sym (f .4)) i, (e .5 ∙ sym (f .5)) i, (e .6 ∙ sym (f .6)) i)
-
-pub key-determined : (state : List ℕ) (key : ℕ) (down : Bool) (reply : List ℕ)
-    → Determined (λ (x : ℕ × List ℕ × List ℕ × List ℕ). KeyBytes state key down reply (x .0) (x .1) (x .2) (x .3))
-key-determined state key down reply x y e f = λ i. ((e .0 ∙ sym (f .0)) i, (e .1 ∙ sym (f .1)) i, (e .2 ∙ sym (f .2)) i, (e .3 ∙ sym (f .3)) i)
-
-pub pin-determined : (state : List ℕ) (pin : ℕ) (high : Bool) → Determined (λ (x : ℕ × List ℕ × List ℕ). PinBytes state pin high (x .0) (x .1) (x .2))
-pin-determined state pin high x y e f = λ i. ((e .0 ∙ sym (f .0)) i, (e .1 ∙ sym (f .1)) i, (e .2 ∙ sym (f .2)) i)

@@ -1,0 +1,25 @@
+use Rattle.layout.specs.Says.{saidBytes}
+use Rattle.answers.specs.declared.Numbers.{Numbers}
+use mathlib.Core.Path.{_≡_, refl, sym, _∙_, ap}
+use borrow.Author.Needs.{needs}
+use Rattle.othercalls.proofs.told.Statement.{statement}
+use Rattle.othercalls.proofs.told.Tie as tie
+use Rattle.othercalls.proofs.told.Reads as reads
+use Rattle.othercalls.proofs.told.Lts as lts
+use Rattle.answers.proofs.told.Reads as told-reads
+use Rattle.layout.proofs.says.write.Reads as write-reads
+
+told-requires : tie.Need-told-requires
+told-requires c κs = search needs
+
+write-requires : tie.Need-write-requires
+write-requires c κs = search needs
+
+returns : tie.Need-returns
+returns c =
+    let t = c .before .before .told .ensures in
+    let s = c .before .before .before .args .s in
+    (ap (λ (n : Numbers). n .number) t, c .write .ensures ∙ ap (λ (n : Numbers). saidBytes n (s .taken) (s .dropped) (s .checked) (s .reply) (s .listed)) t)
+
+pub told-spec : {M : Type 1} → statement M
+told-spec = tie.close (tie.spec told-requires write-requires returns)
