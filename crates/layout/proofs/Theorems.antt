@@ -15,7 +15,7 @@ use Rattle.answers.specs.declared.Numbers.{Numbers}
 use Rattle.layout.specs.Words.{ReadsWord, WritesWord}
 use Rattle.layout.specs.State.{bytesOf, panelOf, readable, PanelFits}
 use Rattle.layout.specs.Faults.{registerBytes, registerOf}
-use Rattle.layout.specs.Says.{saidBytes, Says, Refuses}
+use Rattle.layout.specs.Says.{saidBytes, Says, SaysRefused}
 use Rattle.layout.proofs.ReadBack.{panel-back, readable-back, register-back, word-back}
 use Rattle.layout.proofs.WrittenBack.{bytes-back, faults-back}
 
@@ -57,5 +57,5 @@ word-of-determined a b c d = one _
 pub word-bytes-determined : (n : ℕ) → Determined (WritesWord n)
 word-bytes-determined n = one _
 
-pub says-refused-determined : (answer : Answer) → Determined (λ (x : ℕ × List ℕ). Refuses answer (x .0) (x .1))
+pub says-refused-determined : (answer : Answer) → Determined (λ (x : ℕ × List ℕ). SaysRefused answer (x .0) (x .1))
 says-refused-determined answer = and (one _) (one _)

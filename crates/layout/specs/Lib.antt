@@ -3,3 +3,4 @@ pub mod Settings
 pub mod State
 pub mod Faults
 pub mod Says
+pub mod Calls

@@ -1,5 +1,5 @@
 // What a call says, as 16 bytes.
-ghost use Rattle.layout.specs.Says.{Says, Refuses};
+ghost use Rattle.layout.specs.Says.{Says, SaysRefused};
 use answers::Answer;
 use answers::Numbers;
 
@@ -37,7 +37,7 @@ pub fn write(
 
 // A call that is refused by number: nothing is changed, and all counts are 0.
 pub fn refused(said: &mut [u8; 16], answer: Answer) -> u8
-    ensures { λ r. ⌜ Refuses answer r (now (said .exit)) ⌝ }
+    ensures { λ r. ⌜ SaysRefused answer r (now (said .exit)) ⌝ }
 {
     let n = answers::told(answer);
     write(said, n, 0, 0, 0, 0, 0);

@@ -1,2 +1,3 @@
+pub mod OnState
 pub mod Together
 pub mod Theorems

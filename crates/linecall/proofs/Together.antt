@@ -45,10 +45,10 @@ use Rattle.unpacking.specs.State.{readingOf, ReadsState, acceptable, lineOf, Re
 use Rattle.layout.specs.Faults.{registerOf}
 use Rattle.faults.specs.Faults.{ReadsFaults, WritesFaults}
 use Rattle.layout.proofs.WrittenBack.{state-size, line-written}
-use Rattle.layout.specs.Says.{Refuses, saidBytes, bytesSaid}
-use Rattle.othercalls.specs.Calls.{numberOf, noState, onState, stateAfter, Ends}
+use Rattle.layout.specs.Says.{SaysRefused, numberOf, saidBytes, bytesSaid, noState}
+use Rattle.layout.specs.Calls.{onState, stateAfter, Ends}
 use Rattle.linecall.specs.Line.{filesBy, faultsAfter, lineFiled, LineBytes, Waits, FilesBytes, TurnsDown, CarriesOut}
-use Rattle.othercalls.proofs.Together.{a-state, off, on, kept}
+use Rattle.linecall.proofs.OnState.{a-state, off, on, kept}
 
 -- bytes that are no state
 line-refused : (state : List ℕ) (r : Reading) → ReadsState state r → r .readable ≡ false → (number : ℕ) (said′ : List ℕ) → (number ≡ 10) × (said′ ≡ noState)
@@ -149,7 +149,7 @@ module _ (state : List ℕ) (n : Line) (reads : ReadsLine state n) (l : Lent) (f
   pub passed : k .passes ≡ true → Pass (lineChecks p l)
   passed e = let-through-line p l k (as-panel (can-be-read e)) e
 
-  pub line-turned-away : k .passes ≡ false → (number : ℕ) (said′ : List ℕ) → Refuses (k .answer) number said′
+  pub line-turned-away : k .passes ≡ false → (number : ℕ) (said′ : List ℕ) → SaysRefused (k .answer) number said′
       → LineBytes state l faults number state (l .picture) (l .list) (l .reply) faults said′
   unfolding numbersOf
   line-turned-away e number said′ told = go (r .readable) refl

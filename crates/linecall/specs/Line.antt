@@ -20,8 +20,8 @@ use Rattle.whole.specs.Whole.{withUnfiled}
 use Rattle.layout.specs.State.{stateWith, lineWith}
 use Rattle.unpacking.specs.State.{readingOf}
 use Rattle.layout.specs.Faults.{registerOf, faultsWith}
-use Rattle.layout.specs.Says.{saidBytes, bytesSaid}
-use Rattle.othercalls.specs.Calls.{numberOf, noState, onState, stateAfter}
+use Rattle.layout.specs.Says.{numberOf, saidBytes, bytesSaid, noState}
+use Rattle.layout.specs.Calls.{onState, stateAfter}
 
 -- 448 bytes are 64 records; others are not a register's
 unfoldable pub recordsIn : ℕ → ℕ

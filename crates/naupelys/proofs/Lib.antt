@@ -1,2 +1,3 @@
+mod Together
 pub mod Counts
 pub mod Theorems

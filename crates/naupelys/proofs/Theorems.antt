@@ -1,12 +1,13 @@
 -- What holds of the four calls over and above their own promises.
 use Prim.Native.Nat.{ℕ, _≤_}
-use mathlib.Core.Path.{_≡_, refl, _∙_}
+use mathlib.Core.Path.{_≡_, refl, sym, _∙_}
 use mathlib.Core.Bool.{Bool, true, false}
 use mathlib.Core.List.{List}
 use native.Mathlib.Omega.{arith}
 use borrow.Author.Tests.{le-ltb, ne-eqb}
 use lib.ListN.{length, drop, length-take}
-use Rattle.lists.proofs.Laws.{when-true, when-false}
+use Rattle.lists.specs.Promise.{Determined}
+use Rattle.lists.proofs.Laws.{when-false}
 use Rattle.panel.specs.declared.state.Panel.{Panel}
 use Rattle.answers.specs.declared.Said.{Said}
 use Rattle.events.specs.Keys.{keySaid}
@@ -17,17 +18,11 @@ use Rattle.whole.proofs.Theorems.{refused-call-changes-nothing}
 use Rattle.layout.specs.State.{holdOf, panelOf, readable}
 use Rattle.layout.specs.Faults.{registerOf}
 use Rattle.naupelys.proofs.Counts.{said-back, line-fits, key-fits, pin-fits}
-use Rattle.othercalls.specs.Calls.{numberOf, onState, stateAfter, KeyBytes, PinBytes}
+use Rattle.layout.specs.Says.{numberOf}
+use Rattle.layout.specs.Calls.{stateAfter}
 use Rattle.linecall.specs.Line.{faultsAfter, lineFiled, LineBytes}
-use Rattle.naupelys.specs.Calls.{ReadFrom}
-
-on-no : {A : Type 0} (state : List ℕ) (x : A) (f : Panel → A) → readable state ≡ false → onState state x f ≡ x
-unfolding onState
-on-no state x f e = when-false _ _ _ e
-
-on-yes : {A : Type 0} (state : List ℕ) (x : A) (f : Panel → A) → readable state ≡ true → onState state x f ≡ f (panelOf state)
-unfolding onState
-on-yes state x f e = when-true _ _ _ e
+use Rattle.linecall.proofs.OnState.{no-on, is-on}
+use Rattle.naupelys.specs.Calls.{PowerOnBytes, KeyBytes, PinBytes, ReadFrom}
 
 state-kept : (state : List ℕ) (s : Said) → 10 ≤ numberOf s → stateAfter state s ≡ state
 unfolding stateAfter
@@ -40,16 +35,16 @@ faults-kept faults s h = when-false _ _ _ (ne-eqb (numberOf s) 4 (λ e. absurd (
 module _ (state : List ℕ) (l : Lent) (faults : List ℕ) (number : ℕ) (state′ picture′ list′ reply′ faults′ said′ : List ℕ) (called : LineBytes state l faults number state′ picture′ list′ reply′ faults′ said′) (h : 10 ≤ number) where
   line-kept : (t : Bool) → readable state ≡ t → (state′ ≡ state) × (picture′ ≡ l .picture) × (list′ ≡ l .list) × (reply′ ≡ l .reply) × (faults′ ≡ faults)
   line-kept false e =
-      (called .1 ∙ on-no _ _ _ e, called .2 ∙ on-no _ _ _ e, called .3 ∙ on-no _ _ _ e, called .4 ∙ on-no _ _ _ e, called .5 ∙ on-no _ _ _ e)
+      (called .1 ∙ no-on _ _ _ e, called .2 ∙ no-on _ _ _ e, called .3 ∙ no-on _ _ _ e, called .4 ∙ no-on _ _ _ e, called .5 ∙ no-on _ _ _ e)
   line-kept true e =
       let p = panelOf state in
-      let k : 10 ≤ numberOf (lineSaid p l) = rw (called .0 ∙ on-yes _ _ _ e) at h in
+      let k : 10 ≤ numberOf (lineSaid p l) = rw (called .0 ∙ is-on _ _ _ e) at h in
       let r = refused-call-changes-nothing p l (registerOf faults) (lineFiled p l faults) _ _ _ _ (refl, refl, refl, refl, refl) k in (
-        called .1 ∙ on-yes _ _ _ e ∙ state-kept state (lineFiled p l faults) k,
-        called .2 ∙ on-yes _ _ _ e ∙ r .1,
-        called .3 ∙ on-yes _ _ _ e ∙ r .2,
-        called .4 ∙ on-yes _ _ _ e ∙ r .3,
-        called .5 ∙ on-yes _ _ _ e ∙ faults-kept faults (lineSaid p l) k,
+        called .1 ∙ is-on _ _ _ e ∙ state-kept state (lineFiled p l faults) k,
+        called .2 ∙ is-on _ _ _ e ∙ r .1,
+        called .3 ∙ is-on _ _ _ e ∙ r .2,
+        called .4 ∙ is-on _ _ _ e ∙ r .3,
+        called .5 ∙ is-on _ _ _ e ∙ faults-kept faults (lineSaid p l) k,
       )
 
   -- A line call that is refused by a number of 10 or more leaves the state and every buffer as they came.
@@ -58,11 +53,11 @@ module _ (state : List ℕ) (l : Lent) (faults : List ℕ) (number : ℕ) (state
 
 module _ (state : List ℕ) (key : ℕ) (down : Bool) (reply : List ℕ) (number : ℕ) (state′ reply′ said′ : List ℕ) (called : KeyBytes state key down reply number state′ reply′ said′) (h : 10 ≤ number) where
   key-kept : (t : Bool) → readable state ≡ t → (state′ ≡ state) × (reply′ ≡ reply)
-  key-kept false e = (called .1 ∙ on-no _ _ _ e, called .2 ∙ on-no _ _ _ e)
+  key-kept false e = (called .1 ∙ no-on _ _ _ e, called .2 ∙ no-on _ _ _ e)
   key-kept true e =
       let p = panelOf state in
-      let k : 10 ≤ numberOf (keySaid p key down reply) = rw (called .0 ∙ on-yes _ _ _ e) at h in
-      (called .1 ∙ on-yes _ _ _ e ∙ state-kept state (keySaid p key down reply) k, called .2 ∙ on-yes _ _ _ e ∙ refused-key-changes-nothing p key down reply _ _ (refl, refl) k .1)
+      let k : 10 ≤ numberOf (keySaid p key down reply) = rw (called .0 ∙ is-on _ _ _ e) at h in
+      (called .1 ∙ is-on _ _ _ e ∙ state-kept state (keySaid p key down reply) k, called .2 ∙ is-on _ _ _ e ∙ refused-key-changes-nothing p key down reply _ _ (refl, refl) k .1)
 
   -- So does a key call.
   pub refused-key-leaves-all : (state′ ≡ state) × (reply′ ≡ reply)
@@ -70,10 +65,10 @@ module _ (state : List ℕ) (key : ℕ) (down : Bool) (reply : List ℕ) (number
 
 module _ (state : List ℕ) (pin : ℕ) (high : Bool) (number : ℕ) (state′ said′ : List ℕ) (called : PinBytes state pin high number state′ said′) (h : 10 ≤ number) where
   pin-kept : (t : Bool) → readable state ≡ t → state′ ≡ state
-  pin-kept false e = called .1 ∙ on-no _ _ _ e
+  pin-kept false e = called .1 ∙ no-on _ _ _ e
   pin-kept true e =
-      let k : 10 ≤ numberOf (pinSaid (panelOf state) pin high) = rw (called .0 ∙ on-yes _ _ _ e) at h in
-      called .1 ∙ on-yes _ _ _ e ∙ state-kept state (pinSaid (panelOf state) pin high) k
+      let k : 10 ≤ numberOf (pinSaid (panelOf state) pin high) = rw (called .0 ∙ is-on _ _ _ e) at h in
+      called .1 ∙ is-on _ _ _ e ∙ state-kept state (pinSaid (panelOf state) pin high) k
 
   -- And a pin call.
   pub refused-pin-leaves-all : state′ ≡ state
@@ -90,7 +85,7 @@ pub line-says : (state : List ℕ) (l : Lent) (faults : List ℕ) (number : ℕ)
     → readable state ≡ true
     → ReadFrom said′ (lineSaid (panelOf state) l)
 line-says state l faults number state′ picture′ list′ reply′ faults′ said′ called e =
-    said-back (lineSaid (panelOf state) l) said′ (called .6 ∙ on-yes _ _ _ e) (line-fits (panelOf state) l (held-short state))
+    said-back (lineSaid (panelOf state) l) said′ (called .6 ∙ is-on _ _ _ e) (line-fits (panelOf state) l (held-short state))
 
 -- The same of a key call and of a pin call.
 pub key-says : (state : List ℕ) (key : ℕ) (down : Bool) (reply : List ℕ) (number : ℕ) (state′ reply′ said′ : List ℕ)
@@ -98,9 +93,22 @@ pub key-says : (state : List ℕ) (key : ℕ) (down : Bool) (reply : List ℕ) (
     → readable state ≡ true
     → ReadFrom said′ (keySaid (panelOf state) key down reply)
 key-says state key down reply number state′ reply′ said′ called e =
-    said-back (keySaid (panelOf state) key down reply) said′ (called .3 ∙ on-yes _ _ _ e) (key-fits (panelOf state) key down reply)
+    said-back (keySaid (panelOf state) key down reply) said′ (called .3 ∙ is-on _ _ _ e) (key-fits (panelOf state) key down reply)
 
 pub pin-says : (state : List ℕ) (pin : ℕ) (high : Bool) (number : ℕ) (state′ said′ : List ℕ) → PinBytes state pin high number state′ said′ → readable state ≡ true
     → ReadFrom said′ (pinSaid (panelOf state) pin high)
 pin-says state pin high number state′ said′ called e =
-    said-back (pinSaid (panelOf state) pin high) said′ (called .2 ∙ on-yes _ _ _ e) (pin-fits (panelOf state) pin high)
+    said-back (pinSaid (panelOf state) pin high) said′ (called .2 ∙ is-on _ _ _ e) (pin-fits (panelOf state) pin high)
+
+-- For power-on, key and pin, any two results that the promise allows are equal: the number, the state, every buffer and what it
+-- says.
+pub power-on-determined : (state picture font : List ℕ)
+    → Determined (λ (x : ℕ × List ℕ × List ℕ × List ℕ). PowerOnBytes state picture font (x .0) (x .1) (x .2) (x .3))
+power-on-determined state picture font x y e f = λ i. ((e .0 ∙ sym (f .0)) i, (e .1 ∙ sym (f .1)) i, (e .2 ∙ sym (f .2)) i, (e .3 ∙ sym (f .3)) i)
+
+pub key-determined : (state : List ℕ) (key : ℕ) (down : Bool) (reply : List ℕ)
+    → Determined (λ (x : ℕ × List ℕ × List ℕ × List ℕ). KeyBytes state key down reply (x .0) (x .1) (x .2) (x .3))
+key-determined state key down reply x y e f = λ i. ((e .0 ∙ sym (f .0)) i, (e .1 ∙ sym (f .1)) i, (e .2 ∙ sym (f .2)) i, (e .3 ∙ sym (f .3)) i)
+
+pub pin-determined : (state : List ℕ) (pin : ℕ) (high : Bool) → Determined (λ (x : ℕ × List ℕ × List ℕ). PinBytes state pin high (x .0) (x .1) (x .2))
+pin-determined state pin high x y e f = λ i. ((e .0 ∙ sym (f .0)) i, (e .1 ∙ sym (f .1)) i, (e .2 ∙ sym (f .2)) i)

@@ -2,10 +2,10 @@ use Rattle.layout.specs.Says.{saidBytes}
 use Rattle.answers.specs.declared.Numbers.{Numbers}
 use mathlib.Core.Path.{_≡_, refl, sym, _∙_, ap}
 use borrow.Author.Needs.{needs}
-use Rattle.othercalls.proofs.told.Statement.{statement}
-use Rattle.othercalls.proofs.told.Tie as tie
-use Rattle.othercalls.proofs.told.Reads as reads
-use Rattle.othercalls.proofs.told.Lts as lts
+use Rattle.naupelys.proofs.told.Statement.{statement}
+use Rattle.naupelys.proofs.told.Tie as tie
+use Rattle.naupelys.proofs.told.Reads as reads
+use Rattle.naupelys.proofs.told.Lts as lts
 use Rattle.answers.proofs.told.Reads as told-reads
 use Rattle.layout.proofs.says.write.Reads as write-reads
 

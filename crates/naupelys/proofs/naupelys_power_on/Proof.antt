@@ -1,12 +1,12 @@
-use Rattle.othercalls.proofs.Together.{power-on-refused, power-on-called}
+use Rattle.naupelys.proofs.Together.{power-on-refused, power-on-called}
 use borrow.Author.Needs.{needs}
-use Rattle.othercalls.proofs.power_on.Statement.{statement}
-use Rattle.othercalls.proofs.power_on.Tie as tie
-use Rattle.othercalls.proofs.power_on.Reads as reads
-use Rattle.othercalls.proofs.power_on.Lts as lts
+use Rattle.naupelys.proofs.naupelys_power_on.Statement.{statement}
+use Rattle.naupelys.proofs.naupelys_power_on.Tie as tie
+use Rattle.naupelys.proofs.naupelys_power_on.Reads as reads
+use Rattle.naupelys.proofs.naupelys_power_on.Lts as lts
 use Rattle.packing.proofs.state.write.Reads as write-reads
-use Rattle.othercalls.proofs.no_state.Reads as no-state-reads
-use Rattle.othercalls.proofs.told.Reads as told-reads
+use Rattle.naupelys.proofs.no_state.Reads as no-state-reads
+use Rattle.naupelys.proofs.told.Reads as told-reads
 use Rattle.picture.proofs.calls.power_on.Reads as power-on-reads
 
 no-state-requires : tie.Need-no-state-requires
@@ -38,8 +38,8 @@ returns-2 c =
     let p = c .before .before .before .before .before .before .before .before .power-on in
     power-on-called (a .state .now) (a .picture .now) (a .font .now) _ _ (c .before .before .before .before .before .before .before .before .before .before .if1 .left) (p .result) _ _ (p .ensures) (c .before .before .before .before .write .ensures) (c .told .ensures)
 
-pub power-on-spec : {M : Type 1} → statement M
-power-on-spec =
+pub naupelys-power-on-spec : {M : Type 1} → statement M
+naupelys-power-on-spec =
     tie.close
     (tie.spec
     no-state-requires

@@ -2,12 +2,12 @@ use borrow.Author.Tests.{lt-ltb, le-ltb}
 use Rattle.lists.proofs.Laws.{when-true, when-false}
 use mathlib.Core.Path.{_≡_, refl, sym, _∙_, ap}
 use borrow.Author.Needs.{needs}
-use Rattle.othercalls.proofs.ended.Statement.{statement}
-use Rattle.othercalls.proofs.ended.Tie as tie
-use Rattle.othercalls.proofs.ended.Reads as reads
-use Rattle.othercalls.proofs.ended.Lts as lts
+use Rattle.naupelys.proofs.ended.Statement.{statement}
+use Rattle.naupelys.proofs.ended.Tie as tie
+use Rattle.naupelys.proofs.ended.Reads as reads
+use Rattle.naupelys.proofs.ended.Lts as lts
 use Rattle.packing.proofs.state.write.Reads as write-reads
-use Rattle.othercalls.proofs.told.Reads as told-reads
+use Rattle.naupelys.proofs.told.Reads as told-reads
 
 told-requires : tie.Need-told-requires
 told-requires c κs = search needs

@@ -1,2 +1,0 @@
-pub mod Together
-pub mod Theorems
