@@ -8,7 +8,7 @@ use Rattle.lists.specs.Tests.{all}
 use Rattle.lists.proofs.Theorems.{one}
 use Rattle.table.specs.Table.{configAllowed}
 use Rattle.panel.specs.declared.state.Panel.{Panel}
-use Rattle.panel.specs.State.{factorySettings, poweredOn, StartsSettings, Starts}
+use Rattle.panel.specs.State.{factorySettings, poweredOn, Starts}
 use Rattle.panel.specs.Ranges.{numbersInRange, settingsInRange, keysInRange, inRanges, PartsRange, Ranges}
 
 -- The state at power-on is in its ranges: antt computes the test.
@@ -17,9 +17,6 @@ unfolding inRanges poweredOn factorySettings settingsInRange numbersInRange keys
 power-on-in-range = refl
 
 -- For each public function, any two results that its promise allows are equal.
-pub factory-determined : Determined StartsSettings
-factory-determined = one _
-
 pub powered-on-determined : Determined Starts
 powered-on-determined = one _
 

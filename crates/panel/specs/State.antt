@@ -44,10 +44,6 @@ poweredOn =
       unfiled = 0;
     }
 
--- what `factory` promises
-abbrev pub StartsSettings : Settings → Type 0
-StartsSettings r = r ≡ factorySettings
-
 -- what `powered_on` promises
 abbrev pub Starts : Panel → Type 0
 Starts r = r ≡ poweredOn

@@ -1,6 +1,6 @@
 // The panel's state, by value: the hold, the body and the unfiled number never read each other.
 ghost use mathlib.Core.Path.{_≡_};
-ghost use Rattle.panel.specs.State.{StartsSettings, Starts};
+ghost use Rattle.panel.specs.State.{factorySettings, Starts};
 use packets::hold::Hold;
 
 // What command 4 stores and command 5 brings back. `press` and `release` are the masks of key reports; the glyphs are eight
@@ -49,8 +49,8 @@ pub struct Panel {
 }
 
 // The factory boot state.
-pub fn factory() -> Settings
-    ensures { λ r. ⌜ StartsSettings r ⌝ }
+fn factory() -> Settings
+    ensures { λ r. ⌜ r ≡ factorySettings ⌝ }
 {
     Settings {
         text: [32u8; 80],
