@@ -2,4 +2,3 @@ pub mod Fronts
 pub mod LineCalls
 pub mod Replies
 pub mod Theorems
-pub mod Worked

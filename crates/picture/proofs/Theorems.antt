@@ -3,20 +3,17 @@ use Prim.Native.Nat.{ℕ, _<_, _≤_}
 use mathlib.Core.Path.{_≡_}
 use mathlib.Core.Logic.{_≢_, _↔_}
 use mathlib.Core.Bool.{Bool}
-use mathlib.Core.List.{List, map}
+use mathlib.Core.List.{List}
 use lib.ListN.{getD}
 use Rattle.lists.specs.Promise.{Determined}
 use Rattle.lists.proofs.Theorems.{one, and}
 use Rattle.panel.specs.declared.state.Panel.{Panel}
-use Rattle.panel.specs.State.{poweredOn}
 use Rattle.answers.specs.declared.Said.{Said}
 use Rattle.answers.specs.Answer.{numbersOf, refusedCall}
 use Rattle.paint.specs.Draw.{cellDrawn, shownBy, placeOf}
 use Rattle.paint.specs.Repaint.{ListedIn}
 use Rattle.picture.specs.Calls.{PowersOn, Lent, shownBefore, ChecksLine, Lines}
-use Rattle.picture.specs.Worked.{told, piecesOf, expectedOf, table}
 use Rattle.picture.proofs.LineCalls as calls
-use Rattle.picture.proofs.Worked.{all-said}
 
 module _ (p : Panel) (l : Lent) (r : Said) (picture′ list′ reply′ : List ℕ) (made : Lines p l r picture′ list′ reply′) where
   -- A refused call changes nothing: for each number of 10 or more.
@@ -53,7 +50,3 @@ line-checked-determined inRange piece picture font list reply records = one _
 pub line-determined : (p : Panel) (l : Lent) → Determined (λ (x : Said × (List ℕ × (List ℕ × List ℕ))). Lines p l (x .0) (x .1 .0) (x .1 .1 .0) (x .1 .1 .1))
 line-determined p l x y m n =
     and (one _) (and (one _) (and (one _) (one _))) x y (m .0, (m .1, (m .2, m .3))) (n .0, (n .1, (n .2, n .3)))
-
--- P1 to P10 of document 01, from power-on: each call says what the table of the worked cases has.
-pub worked : map (λ c. told poweredOn (piecesOf c)) table ≡ map expectedOf table
-worked = all-said

@@ -3,4 +3,5 @@ mod Played
 mod Files
 mod Pictures
 mod Stories
+mod Worked
 pub mod Theorems

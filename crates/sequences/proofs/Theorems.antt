@@ -2,11 +2,12 @@
 use Prim.Native.Nat.{ℕ, _+_, _<_, _≤_}
 use mathlib.Core.Path.{_≡_, refl, sym, _∙_, ap}
 use mathlib.Core.Bool.{true}
-use mathlib.Core.List.{List, [], _∷_}
+use mathlib.Core.List.{List, [], _∷_, map}
 use native.Mathlib.Omega.{arith}
 use lib.Dec.{lit≤}
 use lib.ListN.{length}
 use Rattle.panel.specs.declared.state.Panel.{Panel}
+use Rattle.panel.specs.State.{poweredOn}
 use Rattle.panel.specs.Ranges.{inRanges}
 use Rattle.filing.specs.declared.Record.{Record}
 use Rattle.filing.specs.Filing.{counts}
@@ -21,6 +22,8 @@ use Rattle.picture.proofs.LineCalls.{power-draws}
 use Rattle.whole.specs.Whole.{filesAfter, withUnfiled}
 use Rattle.sequences.specs.Run.{Call, line, key, pin, World, refusedIn, Runs, done, more, Afresh}
 use Rattle.sequences.specs.Story.{Entry, Story, places}
+use Rattle.sequences.specs.Worked.{told, piecesOf, expectedOf, table}
+use Rattle.sequences.proofs.Worked.{all-said}
 use Rattle.sequences.proofs.Files.{adds-up, power-unfiled}
 use Rattle.sequences.proofs.Pictures.{still-afresh, story-afresh}
 use Rattle.sequences.proofs.Stories.{story-played, same-story, story-of}
@@ -84,3 +87,7 @@ module _ {font : List ℕ} {w : World} {bytes : List ℕ} (h : inRanges (w .pane
   pub calls-end : length (w .picture) ≡ 640 → length font ≡ 2048 → length (w .register) ≡ 64 → (entries : List Entry) × ((v : World) × Story font w bytes entries v)
   calls-end p f r =
       story-of font (framing.calls-end 4096 (lit≤ tt) (w .panel .hold) bytes) w record { panel = record { ranges = h; bytes = n }; picture = p; rows = f; register = r } refl
+
+-- P1 to P10 of document 01, from power-on: each call says what the table of the worked cases has.
+pub worked : map (λ c. told poweredOn (piecesOf c)) table ≡ map expectedOf table
+worked = all-said

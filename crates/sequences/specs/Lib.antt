@@ -1,2 +1,3 @@
 pub mod Run
 pub mod Story
+pub mod Worked

@@ -19,7 +19,7 @@ use Rattle.command.specs.Step.{ruled, stepOf}
 use Rattle.command.specs.Hear.{writtenLength, written, heardBy, replyBy}
 use Rattle.paint.specs.Draw.{sourceOf, drawnFrom, codeDrawn}
 use Rattle.paint.specs.Repaint.{same, changedBelow}
-use Rattle.picture.specs.Worked.{told, piecesOf, expectedOf, table}
+use Rattle.sequences.specs.Worked.{told, piecesOf, expectedOf, table}
 
 pub all-said : map (λ c. told poweredOn (piecesOf c)) table ≡ map expectedOf table
 unfolding when_then_else_ all firstBelow pasted afterBit afterByte composedLength composed checksumRight judge settleAt settle goOn scan scannedOf lookUp configAllowed inRange firstOut isReboot wholeVerdict verdictBy nestedOf flatFirst flatOf factorySettings poweredOn numbersInRange settingsInRange keysInRange inRanges effect memory edges replyData carried numbersOf decided ruled stepOf writtenLength written heardBy replyBy sourceOf drawnFrom codeDrawn same changedBelow told
