@@ -1,3 +1,2 @@
 mod Together
-pub mod Counts
 pub mod Theorems

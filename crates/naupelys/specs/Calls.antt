@@ -1,14 +1,13 @@
 -- What power-on, key and pin over lent bytes promise of the number that they return and of each byte lent to them; what the
 -- line call promises is `LineBytes` of linecall.
-use Prim.Native.Nat.{ℕ, _+_, _*_}
+use Prim.Native.Nat.{ℕ}
 use mathlib.Core.Path.{_≡_}
 use mathlib.Core.Bool.{Bool}
 use mathlib.Core.List.{List}
-use lib.ListN.{length, getD}
+use lib.ListN.{length}
 use Rattle.lists.specs.Tests.{when_then_else_, _=?_}
 use Rattle.panel.specs.State.{poweredOn}
 use Rattle.answers.specs.declared.Said.{Said}
-use Rattle.answers.specs.Answer.{numbersOf}
 use Rattle.events.specs.Keys.{keySaid, keyReply}
 use Rattle.events.specs.Pins.{pinSaid}
 use Rattle.picture.specs.Calls.{powerSaid, powerPicture}
@@ -43,16 +42,3 @@ PinBytes state pin high number state′ said′ =
 -- what `told` promises: the number that it returns and the 16 bytes
 abbrev pub Told : Said → ℕ → List ℕ → Type 0
 Told s number said′ = (number ≡ numberOf s) × (said′ ≡ bytesSaid s)
-
--- a call's numbers and counts, read from the 16 bytes, little end first
-abbrev pub ReadFrom : List ℕ → Said → Type 0
-ReadFrom b s =
-    (getD b 0 0 ≡ numbersOf (s .answer) .number)
-    × (getD b 1 0 ≡ numbersOf (s .answer) .command)
-    × (getD b 2 0 ≡ numbersOf (s .answer) .reason)
-    × (getD b 3 0 ≡ numbersOf (s .answer) .place)
-    × (getD b 4 0 + 256 * getD b 5 0 ≡ s .taken)
-    × (getD b 6 0 + 256 * getD b 7 0 ≡ s .dropped)
-    × (getD b 8 0 + 256 * getD b 9 0 + 65536 * getD b 10 0 + 16777216 * getD b 11 0 ≡ s .checked)
-    × (getD b 12 0 ≡ s .reply)
-    × (getD b 13 0 ≡ s .listed)

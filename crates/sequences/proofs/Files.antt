@@ -21,7 +21,7 @@ use Rattle.answers.proofs.Checks.{either-way, refused-by, accepted-by}
 use Rattle.picture.specs.Calls.{acceptedCall, powerChecks, PowersOn, Lent, lent, lineChecks, heard, altered, withListed, lineSaid}
 use Rattle.whole.specs.Whole.{filesAfter, LineCall}
 use Rattle.sequences.specs.Run.{Call, line, key, pin, World, filesOf, refusedIn, Makes, Runs, done, more}
-use Rattle.whole.proofs.Outcomes.{heard-unfiled}
+use Rattle.sequences.proofs.Outcomes.{heard-unfiled}
 
 -- one call adds to the total what it refuses
 filed-if : (refused : Bool) (k : Refusal) (f : Files) → total f + (when refused then 1 else 0) ≤ most → total (filedIf refused k f) ≡ total f + (when refused then 1 else 0)

@@ -1,3 +1,7 @@
+mod Outcomes
+pub mod Calls
+mod Counts
+pub mod Bytes
 mod OtherCalls
 mod Played
 mod Files

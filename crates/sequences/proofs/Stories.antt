@@ -36,7 +36,7 @@ use Rattle.picture.specs.Calls.{Lent, lent, lineChecks, altered, withListed, li
 use Rattle.paint.proofs.Changes.{length-painted}
 use Rattle.picture.proofs.LineCalls.{heard-below}
 use Rattle.whole.specs.Whole.{filesAfter, withUnfiled}
-use Rattle.whole.proofs.Outcomes.{passed, said-accepted}
+use Rattle.sequences.proofs.Outcomes.{passed, said-accepted}
 use Rattle.sequences.specs.Run.{World, filesOf}
 use Rattle.sequences.specs.Story.{Other, Answers, Entry, packet, other, replied, noted, LineHears, Others, none, one, Story, last, line, call, places, withPanel}
 use Rattle.sequences.proofs.Files.{line-files}

@@ -1,3 +1,4 @@
 pub mod Run
 pub mod Story
 pub mod Worked
+pub mod Bytes

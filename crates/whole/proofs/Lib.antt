@@ -1,3 +1,2 @@
 pub mod LineCalls
-pub mod Outcomes
 pub mod Theorems

@@ -26,7 +26,7 @@ use Rattle.picture.specs.Calls.{Lent, lineChecks, lineSaid, heard, altered, wit
 use Rattle.paint.proofs.Changes.{changed-short}
 use Rattle.layout.specs.Says.{saidBytes, bytesSaid}
 use Rattle.layout.proofs.Theorems.{said-read-back}
-use Rattle.naupelys.specs.Calls.{ReadFrom}
+use Rattle.sequences.specs.Bytes.{ReadFrom}
 
 abbrev pub Fits : Said → Type 0
 Fits s = (s .taken < 65536) × (s .dropped < 65536) × (s .checked < 4294967296) × (s .reply < 256) × (s .listed < 256)
