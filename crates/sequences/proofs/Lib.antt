@@ -1,3 +1,7 @@
+mod Allowed
+mod Effects
+mod HearCalls
+pub mod Hears
 mod Outcomes
 pub mod Calls
 mod Counts

@@ -31,7 +31,7 @@ use Rattle.command.specs.Hear.{scannedBy, heardBy, replyBy}
 use Rattle.answers.proofs.Checks.{Pass, accepted-by}
 use Rattle.command.proofs.Heard as heard
 use Rattle.command.proofs.Heard.{StepSeen, Heard}
-use Rattle.command.proofs.HearCalls.{hear-in-range}
+use Rattle.sequences.proofs.HearCalls.{hear-in-range}
 use Rattle.picture.specs.Calls.{Lent, lent, lineChecks, altered, withListed, lineSaid, linePicture, lineList, lineReply}
 use Rattle.paint.proofs.Changes.{length-painted}
 use Rattle.picture.proofs.LineCalls.{heard-below}

@@ -19,7 +19,7 @@ use Rattle.glyphs.specs.Glyphs.{eightFrom}
 use Rattle.panel.specs.Ranges.{configsInRange, numbersInRange, settingsInRange, keysInRange}
 use Rattle.glyphs.proofs.Every.{Every, Passes, glyph-set-passes, all-set}
 use Rattle.carry.specs.Carry.{withLive, withTextAndCursor, withNumbers, withGlyphs, withLevels, withGlyph, withCursor, withStyle, withContrast, withBacklight, withMasks, withText, withPin, polled, effect}
-use Rattle.command.proofs.Allowed.{Sound, allowed}
+use Rattle.sequences.proofs.Allowed.{Sound, allowed}
 use Rattle.panel.proofs.InRange.{SettingsParts, settings-parts, settings-whole, NumbersParts, numbers-parts, numbers-whole, keys-parts, keys-whole}
 
 -- a body whose live and boot settings and keys are in their ranges

@@ -20,11 +20,11 @@ use Rattle.carry.specs.Carry.{contentOf, carried}
 use Rattle.verdict.specs.declared.verdict.Reason.{Reason}
 use Rattle.answers.specs.declared.Answer.the-variants.{Refused}
 use Rattle.answers.specs.declared.Said.{Said}
 use Rattle.command.specs.declared.step.Stepped.{Stepped}
 use Rattle.answers.specs.Answer.{numbersOf}
 use Rattle.command.specs.Hear.{scannedBy, writtenLength, written, Hears}
-use Rattle.command.proofs.Effects.{BodyInRange, effect-in-range}
+use Rattle.sequences.proofs.Effects.{BodyInRange, effect-in-range}
 use Rattle.command.proofs.Heard.{StepSeen, stray, done, refused, Heard, nothing, packet, see}
 use Rattle.panel.proofs.InRange.{panel-parts, panel-whole}
 
 -- a panel that differs in the hold alone
