@@ -4,6 +4,7 @@ use mathlib.Core.Path.{_≡_, refl, sym, _∙_, ap}
 use mathlib.Core.Logic.{_≢_, _↔_, dite}
 use mathlib.Core.Bool.{Bool, true, false, _&&_, false≢true}
 use mathlib.Core.List.{List, [], _∷_, _++_}
+use native.Mathlib.Numerals.{add-one}
 use native.Mathlib.Omega.{arith}
 use native.Mathlib.Decide.{decLt, ℕ-discrete}
 use borrow.Author.Tests.{eqb-true, eq-eqb}
@@ -29,6 +30,14 @@ alike-at (suc n) a b h k l =
 pub alike-self : (n : ℕ) (a : List ℕ) → alike n a a ≡ true
 alike-self zero a = refl
 alike-self (suc n) a = rw (alike-self n a, eq-eqb (getD a n 0) (getD a n 0) refl)
+
+-- one byte more compared, at the code's i + 1
+pub alike-turn : (a b : List ℕ) (i : ℕ) (ok : Bool) → ok ≡ alike i a b → ok && eqb (getD a i 0) (getD b i 0) ≡ alike (i + 1) a b
+alike-turn a b i ok e = rw (add-one, e)
+
+-- lists of n that are alike up to n are the same
+pub alike-whole : (n : ℕ) (a b : List ℕ) → length a ≡ n → length b ≡ n → alike n a b ≡ true → a ≡ b
+alike-whole n a b h k e = ext-getD 0 a b (h ∙ sym k) (λ i l. alike-at n a b e i (omega arith))
 
 module _ (before after : Shown) (font : List ℕ) where
   pub painted-at : (p : List ℕ) (c k : ℕ) → length p ≡ 640 → c < 80 → k < 8

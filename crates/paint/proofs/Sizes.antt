@@ -1,9 +1,10 @@
 -- A repaint and a drawing by the sizes of what is lent.
 use Prim.Native.Nat.{ℕ}
 use mathlib.Core.Path.{_≡_, refl, _∙_, sym}
-use mathlib.Core.Bool.{Bool, true, false}
+use mathlib.Core.Bool.{Bool, true, false, not, _&&_, _||_, true≢false}
 use mathlib.Core.List.{List}
-use borrow.Author.Tests.{eq-eqb, ne-eqb}
+use borrow.Author.Tests.{eq-eqb, ne-eqb, eqb-true}
+use lib.Dec.{eqb}
 use lib.ListN.{length}
 use Rattle.lists.specs.Promise.{Determined}
 use Rattle.lists.specs.Tests.{when_then_else_}
@@ -12,14 +13,33 @@ use Rattle.lists.proofs.Theorems.{one, and}
 use Rattle.paint.specs.Draw.{Shown, drawn}
 use Rattle.paint.specs.Repaint.{Repaints, RepaintsSized, DrawsAll}
 
-module _ (before after : Shown) (font picture list : List ℕ) where
-  pub picture-left : (length picture ≡ 640 → ⊥) → RepaintsSized before after font picture list 0 picture list
-  unfolding when_then_else_
-  picture-left h = rw (ne-eqb (length picture) 640 h) (refl, refl, refl)
+when-true-is : (A B : Type 0) → A → when true then A else B
+unfolding when_then_else_
+when-true-is A B x = x
 
-  pub list-left : length picture ≡ 640 → (length list ≡ 80 → ⊥) → RepaintsSized before after font picture list 0 picture list
-  unfolding when_then_else_
-  list-left h g = rw (eq-eqb (length picture) 640 h, ne-eqb (length list) 80 g) (refl, refl, refl)
+when-false-is : (A B : Type 0) → B → when false then A else B
+unfolding when_then_else_
+when-false-is A B x = x
+
+-- both sizes are right where neither test found one wrong
+pub both-sized : (n m : ℕ) (t : Bool) → (not (eqb n 640) || not (eqb m 80)) || t ≡ false → (n ≡ 640) × (m ≡ 80)
+both-sized n m t h = let g = go (eqb n 640) (eqb m 80) h in (eqb-true n 640 (g .0), eqb-true m 80 (g .1))
+  where
+    go : (a b : Bool) → (not a || not b) || t ≡ false → (a ≡ true) × (b ≡ true)
+    go true true h = (refl, refl)
+    go true false h = absurd (true≢false h)
+    go false b h = absurd (true≢false h)
+
+module _ (before after : Shown) (font picture list : List ℕ) where
+  -- nothing is done where a size is wrong, or where nothing is to be done
+  pub repaint-left : (t : Bool) → (not (eqb (length picture) 640) || not (eqb (length list) 80)) || t ≡ true → (t ≡ true → Repaints before after font picture list 0 picture list)
+      → RepaintsSized before after font picture list 0 picture list
+  repaint-left t h f = go (eqb (length picture) 640) (eqb (length list) 80) h
+    where
+      go : (a b : Bool) → (not a || not b) || t ≡ true → when a && b then Repaints before after font picture list 0 picture list else ((_≡_ {A = ℕ} 0 0) × (picture ≡ picture) × (list ≡ list))
+      go true true h = when-true-is _ _ (f h)
+      go true false h = when-false-is _ _ (refl, refl, refl)
+      go false b h = when-false-is _ _ (refl, refl, refl)
 
   module _ (r : ℕ) (picture′ list′ : List ℕ) (h : length picture ≡ 640) (g : length list ≡ 80) where
     pub sized-repaints : Repaints before after font picture list r picture′ list′ → RepaintsSized before after font picture list r picture′ list′

@@ -7,7 +7,7 @@ use mathlib.Core.List.{List, [], _∷_, _++_}
 use lib.ListN.{length, getD}
 use Rattle.lists.specs.Tests.{when_then_else_, _=?_}
 use Rattle.lists.specs.Runs.{front}
-use Rattle.paint.specs.Draw.{Shown, cellDrawn, paint, drawn}
+use Rattle.paint.specs.Draw.{Shown, cellDrawn, put, paint, drawn}
 
 -- whether the first n bytes are the same
 abbrev pub alike : ℕ → List ℕ → List ℕ → Bool
@@ -31,6 +31,10 @@ changed before after font = changedBelow before after font 80
 -- the picture with all eight bytes of each changed cell written
 unfoldable pub painted : Shown → Shown → List ℕ → List ℕ → List ℕ
 painted before after font picture = paint (same before after font) (cellDrawn after font) picture 80
+
+-- what the repaint of one cell promises: whether it draws as it did, and the picture with its eight bytes written if not
+abbrev pub RepaintsCell : ℕ → List ℕ → List ℕ → List ℕ → Bool → List ℕ → Type 0
+RepaintsCell cell was bytes picture r picture′ = (r ≡ alike 8 was bytes) × (picture′ ≡ (when r then picture else put cell bytes picture 8))
 
 -- a cell stands in the first n places of a list
 abbrev pub ListedIn : List ℕ → ℕ → ℕ → Type 0

@@ -2,6 +2,7 @@
 ghost use mathlib.Core.Path.{_≡_};
 ghost use Prim.Native.Nat.{_<_};
 ghost use lib.ListN.{length};
+ghost use Rattle.glyphs.specs.Glyphs.{nestedOf};
 ghost use Rattle.paint.specs.Draw.{placeOf, lowSix, codeDrawn, put};
 
 // Where byte k of a cell stands.
@@ -15,27 +16,25 @@ fn place(cell: usize, k: usize) -> usize
 fn low_six(rows: [u8; 8]) -> [u8; 8]
     ensures { λ r. ⌜ r ≡ lowSix rows ⌝ }
 {
-    [
-        rows[0] % 64,
-        rows[1] % 64,
-        rows[2] % 64,
-        rows[3] % 64,
-        rows[4] % 64,
-        rows[5] % 64,
-        rows[6] % 64,
-        rows[7] % 64,
-    ]
+    let mut low = [0u8; 8];
+    let mut row: usize = 0;
+    while row < 8 {
+        low[row] = rows[row] % 64;
+        row += 1;
+    }
+    low
 }
 
-// The eight bytes that a code draws.
-pub fn draw(glyphs: [[u8; 8]; 8], font: &[u8], code: u8) -> [u8; 8]
-    ensures { λ r. ⌜ r ≡ codeDrawn glyphs (now (font .entry)) code ⌝ }
+// The eight bytes that a code draws, from the glyphs one behind the other or from the font.
+pub fn draw(glyphs: &[u8], font: &[u8], code: u8) -> [u8; 8]
+    ensures { λ r. ⌜ r ≡ codeDrawn (nestedOf (now (glyphs .entry))) (now (font .entry)) code ⌝ }
 {
+    let from = 8 * (code as u16);
     if code < 8 {
-        let i = code as usize;
-        return glyphs[i];
+        glyphs::eight(glyphs, from)
+    } else {
+        low_six(glyphs::eight(font, from))
     }
-    low_six(glyphs::eight(font, 8 * (code as u16)))
 }
 
 // A cell's eight bytes into the picture.

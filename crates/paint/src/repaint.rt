@@ -1,25 +1,27 @@
 // The repaint, from the codes and glyphs before and after, and the picture drawn afresh.
 ghost use mathlib.Core.Path.{_≡_};
 ghost use mathlib.Core.Bool.{true, _&&_, _||_};
+ghost use Prim.Native.Nat.{_<_, _≤_};
 ghost use lib.ListN.{length};
 ghost use Rattle.lists.specs.Tests.{_=?_, _≤?_};
-ghost use Rattle.paint.specs.Draw.{drawn, shown, shownBy};
-ghost use Rattle.paint.specs.Repaint.{alike, Repaints, RepaintsSized, DrawsAll};
+ghost use Rattle.paint.specs.Draw.{cellDrawn, drawn, shownFlat, shownBy};
+ghost use Rattle.paint.specs.Repaint.{alike, RepaintsCell, Repaints, RepaintsSized, DrawsAll};
 use crate::draw::draw;
 use crate::draw::put_cell;
 use panel::state::Settings;
 
-fn alike8(a: [u8; 8], b: [u8; 8]) -> bool
-    ensures { λ r. ⌜ r ≡ alike 8 a b ⌝ }
+// Whether the first n bytes are the same.
+fn alike_first(a: &[u8], b: &[u8], n: usize) -> bool
+    requires { ⌜ (n ≤ length (now a)) × (n ≤ length (now b)) ⌝ }
+    ensures { λ r. ⌜ r ≡ alike n (now (a .entry)) (now (b .entry)) ⌝ }
 {
-    (a[0] == b[0])
-        & (a[1] == b[1])
-        & (a[2] == b[2])
-        & (a[3] == b[3])
-        & (a[4] == b[4])
-        & (a[5] == b[5])
-        & (a[6] == b[6])
-        & (a[7] == b[7])
+    let mut ok = true;
+    let mut i: usize = 0;
+    while i < n {
+        ok = ok & (a[i] == b[i]);
+        i += 1;
+    }
+    ok
 }
 
 // A code that stays draws as it did where the glyphs are the same, or where it is not special.
@@ -29,83 +31,65 @@ fn stays(a: u8, b: u8, same: bool) -> bool
     (a == b) & (same | (8 <= b))
 }
 
-// Each cell that draws otherwise is written and listed; `same` is true only where the glyphs are.
+// A cell that draws otherwise is written; says whether it draws as it did. `same` is true only where the glyphs are.
+fn repaint_cell(
+    picture: &mut [u8],
+    cell: usize,
+    old: &[u8],
+    new: &[u8],
+    before: &[u8],
+    after: &[u8],
+    same: bool,
+    font: &[u8],
+) -> bool
+    requires { ⌜ (length (now picture) ≡ 640) × (cell < 80) × (length (now old) ≡ 80) × (length (now new) ≡ 80) × (same ≡ true → now before ≡ now after) ⌝ }
+    ensures { λ r. ⌜ RepaintsCell cell (cellDrawn (shownFlat (now (old .entry)) (now (before .entry))) (now (font .entry)) cell) (cellDrawn (shownFlat (now (new .entry)) (now (after .entry))) (now (font .entry)) cell) (now (picture .entry)) r (now (picture .exit)) ⌝ }
+{
+    let a = old[cell];
+    let b = new[cell];
+    if stays(a, b, same) {
+        return true;
+    }
+    let was = draw(before, font, a);
+    let bytes = draw(after, font, b);
+    if alike_first(&was, &bytes, 8) {
+        true
+    } else {
+        put_cell(picture, cell, bytes);
+        false
+    }
+}
+
+// Each cell that draws otherwise is written and listed. Nothing is where the picture or the list is not of its size, or where
+// codes and glyphs are as before.
 fn repaint_cells(
     picture: &mut [u8],
     list: &mut [u8],
-    old: [u8; 80],
-    new: [u8; 80],
-    before: [[u8; 8]; 8],
-    after: [[u8; 8]; 8],
-    same: bool,
+    old: &[u8],
+    new: &[u8],
+    before: &[u8],
+    after: &[u8],
     font: &[u8],
 ) -> usize
-    requires { ⌜ (length (now picture) ≡ 640) × (length (now list) ≡ 80) × (same ≡ true → before ≡ after) ⌝ }
-    ensures { λ r. ⌜ Repaints (shown old before) (shown new after) (now (font .entry)) (now (picture .entry)) (now (list .entry)) r (now (picture .exit)) (now (list .exit)) ⌝ }
+    requires { ⌜ (length (now old) ≡ 80) × (length (now new) ≡ 80) × (length (now before) ≡ 64) × (length (now after) ≡ 64) ⌝ }
+    ensures { λ r. ⌜ RepaintsSized (shownFlat (now (old .entry)) (now (before .entry))) (shownFlat (now (new .entry)) (now (after .entry))) (now (font .entry)) (now (picture .entry)) (now (list .entry)) r (now (picture .exit)) (now (list .exit)) ⌝ }
 {
+    let same = alike_first(before, after, 64);
+    if (picture.len() != 640) | (list.len() != 80) | (same & alike_first(old, new, 80)) {
+        return 0;
+    }
     let mut listed: usize = 0;
     let mut cell: usize = 0;
     while cell < 80 {
-        let a = old[cell];
-        let b = new[cell];
-        if stays(a, b, same) {
+        if repaint_cell(picture, cell, old, new, before, after, same, font) {
             cell += 1;
         } else {
-            let was = draw(before, font, a);
-            let bytes = draw(after, font, b);
-            if alike8(was, bytes) {
-                cell += 1;
-            } else {
-                put_cell(picture, cell, bytes);
-                list[listed] = cell as u8;
-                listed += 1;
-                cell += 1;
-            }
+            list[listed] = cell as u8;
+            listed += 1;
+            cell += 1;
         }
     }
     listed
-}
-
-// Whether two runs are the same.
-fn same_bytes(a: &[u8], b: &[u8]) -> bool
-    ensures { λ r. ⌜ (r ≡ true → now (a .entry) ≡ now (b .entry)) ⌝ }
-{
-    if a.len() != b.len() {
-        return false;
-    }
-    let mut ok = true;
-    let mut i = 0;
-    while i < a.len() {
-        ok = ok & (a[i] == b[i]);
-        i += 1;
-    }
-    ok
-}
-
-// Where codes and glyphs are as before, nothing is drawn.
-fn repaint_sized(
-    picture: &mut [u8],
-    list: &mut [u8],
-    before: Settings,
-    after: Settings,
-    font: &[u8],
-) -> usize
-    requires { ⌜ (length (now picture) ≡ 640) × (length (now list) ≡ 80) ⌝ }
-    ensures { λ r. ⌜ Repaints (shownBy before) (shownBy after) (now (font .entry)) (now (picture .entry)) (now (list .entry)) r (now (picture .exit)) (now (list .exit)) ⌝ }
-{
-    let old = before.text;
-    let new = after.text;
-    let old_glyphs = before.glyphs;
-    let new_glyphs = after.glyphs;
-    let same = same_bytes(&old_glyphs, &new_glyphs);
-    if same {
-        if same_bytes(&old, &new) {
-            return 0;
-        }
-    }
-    let a = glyphs::nested(old_glyphs);
-    let b = glyphs::nested(new_glyphs);
-    repaint_cells(picture, list, old, new, a, b, same, font)
 }
 
 // Each cell that draws otherwise after than before is written and listed; where the picture or the list is not of its size,
@@ -119,27 +103,22 @@ pub fn repaint(
 ) -> usize
     ensures { λ r. ⌜ RepaintsSized (shownBy before) (shownBy after) (now (font .entry)) (now (picture .entry)) (now (list .entry)) r (now (picture .exit)) (now (list .exit)) ⌝ }
 {
-    if picture.len() != 640 {
-        return 0;
-    }
-    if list.len() != 80 {
-        return 0;
-    }
-    repaint_sized(picture, list, before, after, font)
+    let old = before.text;
+    let new = after.text;
+    let a = before.glyphs;
+    let b = after.glyphs;
+    repaint_cells(picture, list, &old, &new, &a, &b, font)
 }
 
 // Every cell drawn, whatever the picture held.
-fn draw_cells(picture: &mut [u8], s: Settings, font: &[u8])
-    requires { ⌜ length (now picture) ≡ 640 ⌝ }
-    ensures { λ r. ⌜ now (picture .exit) ≡ drawn (shownBy s) (now (font .entry)) ⌝ }
+fn draw_cells(picture: &mut [u8], text: &[u8], glyphs: &[u8], font: &[u8])
+    requires { ⌜ (length (now picture) ≡ 640) × (length (now text) ≡ 80) ⌝ }
+    ensures { λ r. ⌜ now (picture .exit) ≡ drawn (shownFlat (now (text .entry)) (now (glyphs .entry))) (now (font .entry)) ⌝ }
 {
-    let text = s.text;
-    let flat = s.glyphs;
-    let glyphs = glyphs::nested(flat);
-    let mut cell: usize = 0;
-    while cell < 80 {
-        put_cell(picture, cell, draw(glyphs, font, text[cell]));
-        cell += 1;
+    let mut n: usize = 0;
+    while n < 80 {
+        put_cell(picture, n, draw(glyphs, font, text[n]));
+        n += 1;
     }
 }
 
@@ -148,6 +127,8 @@ pub fn draw_all(picture: &mut [u8], s: Settings, font: &[u8])
     ensures { λ r. ⌜ DrawsAll (shownBy s) (now (font .entry)) (now (picture .entry)) (now (picture .exit)) ⌝ }
 {
     if picture.len() == 640 {
-        draw_cells(picture, s, font);
+        let text = s.text;
+        let glyphs = s.glyphs;
+        draw_cells(picture, &text, &glyphs, font);
     }
 }

@@ -1,47 +1,53 @@
-use Prim.Native.Nat.{ℕ, _≤_, _-_, _+_}
-use mathlib.Core.Path.{_≡_, refl, sym, _∙_, ap}
-use lib.ListN.{length, getD, length-set, length-append}
-use Rattle.lists.specs.Runs.{front}
-use Rattle.lists.proofs.Laws.{front-more}
-use Rattle.paint.specs.Draw.{Shown, shown, paint, cellDrawn}
-use Rattle.paint.specs.Repaint.{same, changedBelow, painted}
-use Rattle.paint.proofs.Codes.{stays-alike}
-use Rattle.paint.proofs.Turns.{same-is, paint-kept, paint-put, unlisted, listed}
+use Prim.Native.Nat.{ℕ, _≤_, _-_}
+use mathlib.Core.Path.{_≡_, refl, _∙_, sym, ap}
+use mathlib.Core.Bool.{_&&_}
+use lib.ListN.{length}
+use Rattle.paint.specs.Draw.{shownFlat}
+use Rattle.paint.proofs.Changes.{both, alike-whole}
+use Rattle.paint.proofs.Sizes.{both-sized, repaint-left, sized-repaints}
+use Rattle.paint.proofs.Turns.{Reached, reached-first, reached-left, reached-listed, reached-all, shown-again}
 use native.Mathlib.Omega.{arith}
 use borrow.Author.Needs.{needs}
 use Rattle.paint.proofs.repaint.repaint_cells.Statement.{statement}
 use Rattle.paint.proofs.repaint.repaint_cells.Tie as tie
 use Rattle.paint.proofs.repaint.repaint_cells.Reads as reads
 use Rattle.paint.proofs.repaint.repaint_cells.Lts as lts
-use Rattle.paint.proofs.draw.draw.Reads as draw-reads
-use Rattle.paint.proofs.draw.put_cell.Reads as put-cell-reads
-use Rattle.paint.proofs.repaint.alike8.Reads as alike8-reads
-use Rattle.paint.proofs.repaint.stays.Reads as stays-reads
+use Rattle.paint.proofs.repaint.alike_first.Reads as alike-first-reads
+use Rattle.paint.proofs.repaint.repaint_cell.Reads as repaint-cell-reads
 
 abbrev Inv-loop : tie.InvT-loop
-Inv-loop picture₀ list₀ before after kept font old new listed₀ cell₀ picture list listed cell =
-    (cell ≤ 80) × (listed ≡ length (changedBelow (shown old before) (shown new after) font cell)) × (listed ≤ cell)
-    × (picture ≡ paint (same (shown old before) (shown new after) font) (cellDrawn (shown new after) font) picture₀ cell)
-    × (list ≡ front (changedBelow (shown old before) (shown new after) font cell) list₀) × (length picture ≡ length picture₀) × (length list ≡ length list₀)
+Inv-loop picture₀ list₀ old new before after font same listed₀ cell₀ picture list listed cell = Reached (shownFlat old before) (shownFlat new after) font picture₀ list₀ cell picture list listed
 
 abbrev μ-loop : tie.MeasureT-loop
-μ-loop picture₀ list₀ before after kept font old new listed₀ cell₀ picture list listed cell = 80 - cell
+μ-loop picture₀ list₀ old new before after font same listed₀ cell₀ picture list listed cell = 80 - cell
 
-drew-alike : (c : tie.After-alike8 Inv-loop μ-loop) → same (shown (c .before .before .before .before .before .before .before .before .before .before .args .t3) (c .before .before .before .before .before .before .before .before .before .before .args .before)) (shown (c .before .before .before .before .before .before .before .before .before .before .args .t4) (c .before .before .before .before .before .before .before .before .before .before .args .after)) (c .before .before .before .before .before .before .before .before .before .before .args .font .now) (c .before .before .before .before .before .before .loop .cell) ≡ c .alike8 .result
-drew-alike c = same-is _ _ _ _ ∙ sym (c .alike8 .ensures ∙ rw (c .before .before .draw .ensures, c .before .draw2 .ensures))
+alike-first-requires : tie.Need-alike-first-requires Inv-loop μ-loop
+alike-first-requires c κs = search needs
+
+alike-first-requires-2 : tie.Need-alike-first-requires-2 Inv-loop μ-loop
+alike-first-requires-2 c κs = search needs
+
+returns : tie.Need-returns Inv-loop μ-loop
+returns c =
+    let a = c .before .before .before .before .before .before .before .before .before .before .args in
+    let p = c .before .before .before .before .before .before .before .before .before .before .pre in
+    let f = c .before .before .alike-first in
+    let g = c .before .alike-first2 in
+    repaint-left (shownFlat (a .old .now) (a .before .now)) (shownFlat (a .new .now) (a .after .now)) (a .font .now) (a .picture .now) (a .list .now) (f .result && g .result) (c .if1 .taken) (λ t.
+    let h = both (f .result) (g .result) t in
+    shown-again (a .old .now) (a .new .now) (a .before .now) (a .after .now) (a .font .now) (a .picture .now) (a .list .now) (alike-whole 80 (a .old .now) (a .new .now) (p .0) (p .1) (sym (g .ensures) ∙ h .1)) (alike-whole 64 (a .before .now) (a .after .now) (p .2) (p .3) (sym (f .ensures) ∙ h .0)))
 
 loop-holds : tie.Need-loop-holds Inv-loop μ-loop
-unfolding paint changedBelow
-loop-holds c = (search needs, refl, search needs, refl, refl, refl, refl)
+loop-holds c =
+    let a = c .before .before .before .before .before .before .before .before .before .before .args in
+    let z = both-sized (length (a .picture .now)) (length (a .list .now)) _ (c .if1 .left) in
+    reached-first (shownFlat (a .old .now) (a .before .now)) (shownFlat (a .new .now) (a .after .now)) (a .font .now) (a .picture .now) (a .list .now) (z .0) (z .1)
 
-array-read-a : tie.Need-array-read-a Inv-loop μ-loop
-array-read-a c = search needs
-
-array-read-b : tie.Need-array-read-b Inv-loop μ-loop
-array-read-b c = search needs
-
-stays-requires : tie.Need-stays-requires Inv-loop μ-loop
-stays-requires c κs = search needs
+repaint-cell-requires : tie.Need-repaint-cell-requires Inv-loop μ-loop
+repaint-cell-requires c κs =
+    let a = c .before .before .before .before .before .before .before .before .before .before .before .before .before .args in
+    let p = c .before .before .before .before .before .before .before .before .before .before .before .before .before .pre in
+    (c .before .before .loop .inv .5, c .before .loop-test .taken, p .0, p .1, λ e. alike-whole 64 (a .before .now) (a .after .now) (p .2) (p .3) (sym (c .before .before .before .before .before .alike-first .ensures) ∙ e))
 
 add-cell : tie.Need-add-cell Inv-loop μ-loop
 add-cell c = search needs
@@ -51,41 +57,9 @@ loop-less c = search needs
 
 loop-again : tie.Need-loop-again Inv-loop μ-loop
 loop-again c =
-    let a = c .before .before .before .before .before .before .before .args in
-    let l = c .before .before .before .loop in
-    let o = shown (a .t3) (a .before) in
-    let n = shown (a .t4) (a .after) in
-    let h = same-is o n (a .font .now) (l .cell) ∙ stays-alike (a .before) (a .after) (a .font .now) (getD (a .t3) (l .cell) 0) (getD (a .t4) (l .cell) 0) (a .same) (c .before .before .before .before .before .before .before .pre .2) (sym (c .before .stays .ensures) ∙ c .if1 .taken) in
-    rw (unlisted o n (a .font .now) (l .cell) h, paint-kept (same o n (a .font .now)) (cellDrawn n (a .font .now)) (a .picture .now) (l .cell) h)
-    (omega arith, l .inv .1, omega arith, l .inv .3, l .inv .4, l .inv .5, l .inv .6)
-
-draw-requires : tie.Need-draw-requires Inv-loop μ-loop
-draw-requires c κs = search needs
-
-draw-requires-2 : tie.Need-draw-requires-2 Inv-loop μ-loop
-draw-requires-2 c κs = search needs
-
-alike8-requires : tie.Need-alike8-requires Inv-loop μ-loop
-alike8-requires c κs = search needs
-
-add-cell-2 : tie.Need-add-cell-2 Inv-loop μ-loop
-add-cell-2 c = search needs
-
-loop-less-2 : tie.Need-loop-less-2 Inv-loop μ-loop
-loop-less-2 c = search needs
-
-loop-again-2 : tie.Need-loop-again-2 Inv-loop μ-loop
-loop-again-2 c =
-    let a = c .before .before .before .before .before .before .before .before .before .before .before .args in
-    let l = c .before .before .before .before .before .before .before .loop in
-    let o = shown (a .t3) (a .before) in
-    let n = shown (a .t4) (a .after) in
-    let h = drew-alike (c .before) ∙ c .if2 .taken in
-    rw (unlisted o n (a .font .now) (l .cell) h, paint-kept (same o n (a .font .now)) (cellDrawn n (a .font .now)) (a .picture .now) (l .cell) h)
-    (omega arith, l .inv .1, omega arith, l .inv .3, l .inv .4, l .inv .5, l .inv .6)
-
-put-cell-requires : tie.Need-put-cell-requires Inv-loop μ-loop
-put-cell-requires c κs = search needs
+    let a = c .before .before .before .before .before .before .before .before .before .before .before .before .before .before .before .before .before .args in
+    let l = c .before .before .before .before .before .before .loop in
+    reached-left (shownFlat (a .old .now) (a .before .now)) (shownFlat (a .new .now) (a .after .now)) (a .font .now) (a .picture .now) (a .list .now) (l .cell) (l .picture) (l .list) (l .listed) _ _ (c .before .before .before .before .before .loop-test .taken) (c .before .before .before .repaint-cell .ensures) (l .inv) (c .if2 .taken)
 
 cast-list : tie.Need-cast-list Inv-loop μ-loop
 cast-list c = search needs
@@ -96,43 +70,37 @@ slice-write-list c = search needs
 add-listed : tie.Need-add-listed Inv-loop μ-loop
 add-listed c = search needs
 
-add-cell-3 : tie.Need-add-cell-3 Inv-loop μ-loop
-add-cell-3 c = search needs
+add-cell-2 : tie.Need-add-cell-2 Inv-loop μ-loop
+add-cell-2 c = search needs
 
-loop-less-3 : tie.Need-loop-less-3 Inv-loop μ-loop
-loop-less-3 c = search needs
+loop-less-2 : tie.Need-loop-less-2 Inv-loop μ-loop
+loop-less-2 c = search needs
 
-loop-again-3 : tie.Need-loop-again-3 Inv-loop μ-loop
-loop-again-3 c =
-    let a = c .before .before .before .before .before .before .before .before .before .before .before .before .before .before .before .args in
-    let l = c .before .before .before .before .before .before .before .before .before .before .before .loop in
-    let o = shown (a .t3) (a .before) in
-    let n = shown (a .t4) (a .after) in
-    let h = drew-alike (c .before .before .before .before .before) ∙ c .before .before .before .before .if2 .left in
-    let p = c .before .before .put-cell in
-    let cells = changedBelow o n (a .font .now) (l .cell) in
-    rw (listed o n (a .font .now) (l .cell) h, paint-put (same o n (a .font .now)) (cellDrawn n (a .font .now)) (a .picture .now) (l .cell) h) (
-      omega arith,
-      simp length-append (omega arith),
-      omega arith,
-      p .ensures ∙ rw (c .before .before .before .before .before .before .draw2 .ensures, l .inv .3),
-      rw (l .inv .4) (front-more cells (a .list .now) (l .listed) (l .cell) (l .inv .1) (omega arith)),
-      p .kept .0 ∙ l .inv .5,
-      simp length-set (l .inv .6),
-    )
+loop-again-2 : tie.Need-loop-again-2 Inv-loop μ-loop
+loop-again-2 c =
+    let a = c .before .before .before .before .before .before .before .before .before .before .before .before .before .before .before .before .before .args in
+    let l = c .before .before .before .before .before .before .loop in
+    let z = both-sized (length (a .picture .now)) (length (a .list .now)) _ (c .before .before .before .before .before .before .before .if1 .left) in
+    reached-listed (shownFlat (a .old .now) (a .before .now)) (shownFlat (a .new .now) (a .after .now)) (a .font .now) (a .picture .now) (a .list .now) (l .cell) (l .picture) (l .list) (l .listed) _ _ (c .before .before .before .before .before .loop-test .taken) (c .before .before .before .repaint-cell .ensures) (l .inv) (z .1) (c .if2 .left)
 
 same-length : tie.Need-same-length Inv-loop μ-loop
-same-length c = search needs
+same-length c =
+    let a = c .before .before .before .before .before .before .before .before .before .before .before .before .args in
+    let z = both-sized (length (a .picture .now)) (length (a .list .now)) _ (c .before .before .if1 .left) in
+    c .before .loop .inv .5 ∙ sym (z .0)
 
 same-length-2 : tie.Need-same-length-2 Inv-loop μ-loop
-same-length-2 c = search needs
+same-length-2 c =
+    let a = c .before .before .before .before .before .before .before .before .before .before .before .before .args in
+    let z = both-sized (length (a .picture .now)) (length (a .list .now)) _ (c .before .before .if1 .left) in
+    c .before .loop .inv .6 ∙ sym (z .1)
 
-returns : tie.Need-returns Inv-loop μ-loop
-unfolding painted
-returns c =
-    let e : c .before .loop .cell ≡ 80 = omega arith in
-    let i = c .before .loop .inv in
-    (rw (← e) (i .1), rw (← e) (i .3), rw (← e) (i .4))
+returns-2 : tie.Need-returns-2 Inv-loop μ-loop
+returns-2 c =
+    let a = c .before .before .before .before .before .before .before .before .before .before .before .before .args in
+    let l = c .before .loop in
+    let z = both-sized (length (a .picture .now)) (length (a .list .now)) _ (c .before .before .if1 .left) in
+    sized-repaints (shownFlat (a .old .now) (a .before .now)) (shownFlat (a .new .now) (a .after .now)) (a .font .now) (a .picture .now) (a .list .now) _ _ _ (z .0) (z .1) (reached-all _ _ _ _ _ (l .cell) _ _ _ (c .loop-test .left) (l .inv))
 
 pub repaint-cells-spec : {M : Type 1} → statement M
 repaint-cells-spec =
@@ -140,26 +108,20 @@ repaint-cells-spec =
     (tie.spec
     Inv-loop
     μ-loop
+    alike-first-requires
+    alike-first-requires-2
+    returns
     loop-holds
-    array-read-a
-    array-read-b
-    stays-requires
+    repaint-cell-requires
     add-cell
     loop-less
     loop-again
-    draw-requires
-    draw-requires-2
-    alike8-requires
-    add-cell-2
-    loop-less-2
-    loop-again-2
-    put-cell-requires
     cast-list
     slice-write-list
     add-listed
-    add-cell-3
-    loop-less-3
-    loop-again-3
+    add-cell-2
+    loop-less-2
+    loop-again-2
     same-length
     same-length-2
-    returns)
+    returns-2)

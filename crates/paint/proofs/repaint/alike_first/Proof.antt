@@ -1,0 +1,54 @@
+use Prim.Native.Nat.{ℕ, _≤_, _-_}
+use mathlib.Core.Path.{_≡_, refl}
+use Rattle.paint.specs.Repaint.{alike}
+use Rattle.paint.proofs.Changes.{alike-turn}
+use native.Mathlib.Omega.{arith}
+use borrow.Author.Needs.{needs}
+use Rattle.paint.proofs.repaint.alike_first.Statement.{statement}
+use Rattle.paint.proofs.repaint.alike_first.Tie as tie
+use Rattle.paint.proofs.repaint.alike_first.Reads as reads
+use Rattle.paint.proofs.repaint.alike_first.Lts as lts
+
+abbrev Inv-loop : tie.InvT-loop
+Inv-loop a b n ok₀ i₀ ok i = (i ≤ n) × (ok ≡ alike i a b)
+
+abbrev μ-loop : tie.MeasureT-loop
+μ-loop a b n ok₀ i₀ ok i = n - i
+
+loop-holds : tie.Need-loop-holds Inv-loop μ-loop
+loop-holds c = (search needs, refl)
+
+shared-slice-read-ok : tie.Need-shared-slice-read-ok Inv-loop μ-loop
+shared-slice-read-ok c = search needs
+
+shared-slice-read-ok-2 : tie.Need-shared-slice-read-ok-2 Inv-loop μ-loop
+shared-slice-read-ok-2 c = search needs
+
+add-i : tie.Need-add-i Inv-loop μ-loop
+add-i c = search needs
+
+loop-less : tie.Need-loop-less Inv-loop μ-loop
+loop-less c = search needs
+
+loop-again : tie.Need-loop-again Inv-loop μ-loop
+loop-again c =
+    let l = c .before .before .before .loop in
+    let a = c .before .before .before .before .args in
+    (search needs, alike-turn (a .a .now) (a .b .now) (l .i) (l .ok) (l .inv .1))
+
+returns : tie.Need-returns Inv-loop μ-loop
+returns c = let e : c .before .loop .i ≡ c .before .before .args .n = omega arith in rw (← e) (c .before .loop .inv .1)
+
+pub alike-first-spec : {M : Type 1} → statement M
+alike-first-spec =
+    tie.close
+    (tie.spec
+    Inv-loop
+    μ-loop
+    loop-holds
+    shared-slice-read-ok
+    shared-slice-read-ok-2
+    add-i
+    loop-less
+    loop-again
+    returns)
