@@ -1,17 +1,19 @@
 -- The judgement, sentence by sentence.
-use mathlib.Core.Path.{_≡_, refl, _∙_}
+use mathlib.Core.Path.{_≡_, refl, sym, _∙_}
 use mathlib.Core.Logic.{dite}
 use mathlib.Core.Bool.{Bool, true, false}
 use mathlib.Core.List.{List, _++_}
-use Prim.Native.Nat.{ℕ, _+_, _<_, _≤_}
+use Prim.Native.Nat.{ℕ, _+_, _*_, _<_, _≤_}
 use native.Mathlib.Decide.{decLt}
 use native.Mathlib.Omega.{arith}
 use borrow.Author.Tests.{lt-ltb, le-ltb}
+use lib.Dec.{eqb}
 use lib.ListN.{length, getD, take, drop, length-append, length-drop, List·getD-append}
 use lib.Seq.{take-append-le, drop-append-le}
 use Rattle.lists.specs.Tests.{when_then_else_}
 use Rattle.packets.specs.declared.judge.Judgement.{Judgement}
 use Rattle.packets.specs.declared.judge.Judgement.the-variants.{Wait, LongLength, WrongChecksum, Packet}
+use Rattle.packets.specs.Fcs.{checksum}
 use Rattle.packets.specs.Judge.{lengthByte, checksumRight, judge}
 
 -- what is known of the held bytes h under each judgement: one way to each of the paper's sentences
@@ -43,6 +45,27 @@ module _ (h : List ℕ) where
       go : (t : Bool) → checksumRight h ≡ t → lengthByte h ≤ 22 → lengthByte h + 4 ≤ length h → Seen h (judge h)
       go true e a b = at (whole a b e)
       go false e a b = at (wrong a b e)
+
+-- the judgement by a number that is the length byte
+module _ (h : List ℕ) (n : ℕ) (e : n ≡ lengthByte h) where
+  pub judged-long : 2 ≤ length h → 22 < n → LongLength ≡ judge h
+  judged-long a b = sym (shown h (long a (rw e at b)))
+
+  pub judged-part : 2 ≤ length h → n ≤ 22 → length h < n + 4 → Wait ≡ judge h
+  judged-part a b c = sym (shown h (part a (rw e at b) (rw e at c)))
+
+  module _ (t : Bool) (f : t ≡ checksumRight h) (b : n ≤ 22) (c : n + 4 ≤ length h) where
+    pub judged-whole : t ≡ true → Packet ≡ judge h
+    judged-whole g = sym (shown h (whole (rw e at b) (rw e at c) (sym f ∙ g)))
+
+    pub judged-wrong : t ≡ false → WrongChecksum ≡ judge h
+    judged-wrong g = sym (shown h (wrong (rw e at b) (rw e at c) (sym f ∙ g)))
+
+  -- the checksum compared, by that number
+  pub right-by : (sum low high : ℕ) → sum ≡ checksum (take (n + 2) h) → low ≡ getD h (n + 2) 0 → high ≡ getD h (n + 3) 0 → eqb sum (low + 256 * high) ≡ checksumRight h
+  unfolding checksumRight
+  right-by sum low high s l k =
+      (λ i. eqb (s i) (l i + 256 * k i)) ∙ (λ i. eqb (checksum (take (e i + 2) h)) (getD h (e i + 2) 0 + 256 * getD h (e i + 3) 0))
 
 -- bytes behind change nothing of a judgement that is no wait
 module _ (h s : List ℕ) where

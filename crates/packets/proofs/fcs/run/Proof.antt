@@ -1,5 +1,5 @@
 use Prim.Native.Nat.{ℕ, _≤_, _<_, _-_, _+_}
-use mathlib.Core.Path.{_≡_}
+use mathlib.Core.Path.{_≡_, sym, _∙_}
 use mathlib.Core.List.{List}
 use native.Mathlib.Numerals.{add-one}
 use lib.ListN.{length, drop, getD, drop-of-length-le}
@@ -13,8 +13,10 @@ use Rattle.packets.proofs.fcs.run.Reads as reads
 use Rattle.packets.proofs.fcs.run.Lts as lts
 use Rattle.packets.proofs.fcs.byte.Reads as byte-reads
 
-turn : (bytes : List ℕ) (c i : ℕ) → i < length bytes → afterBytes (afterByte c (getD bytes i 0)) (drop (i + 1) bytes) ≡ afterBytes c (drop i bytes)
-turn bytes c i h = rw (add-one, drop-cons bytes i 0)
+turn : (bytes : List ℕ) (c i r all : ℕ) → i < length bytes → r ≡ afterByte c (getD bytes i 0) → afterBytes c (drop i bytes) ≡ all → afterBytes r (drop (i + 1) bytes) ≡ all
+turn bytes c i r all h e g =
+    let t : afterBytes (afterByte c (getD bytes i 0)) (drop (i + 1) bytes) ≡ afterBytes c (drop i bytes) = rw (add-one, drop-cons bytes i 0) in
+    (λ j. afterBytes (e j) (drop (i + 1) bytes)) ∙ t ∙ g
 
 ended : (bytes : List ℕ) (c i : ℕ) → length bytes ≤ i → afterBytes c (drop i bytes) ≡ c
 ended bytes c i h = rw (drop-of-length-le bytes h)
@@ -42,11 +44,13 @@ loop-less c = search needs
 
 loop-again : tie.Need-loop-again Inv-loop μ-loop
 loop-again c =
-    let l = c .before .before .before in
-    (search needs, cc (turn (l .before .before .args .bytes .now) (l .loop .c) (l .loop .i) (c .before .before .loop-test .taken)))
+    let l = c .before .before .before .loop in
+    (search needs, turn (c .before .before .before .before .before .args .bytes .now) (l .c) (l .i) (c .byte .result) _ (c .before .before .loop-test .taken) (c .byte .ensures) (l .inv .1))
 
 returns : tie.Need-returns Inv-loop μ-loop
-returns c = cc (ended (c .before .before .before .args .bytes .now) (c .before .loop .c) (c .before .loop .i) (c .loop-test .left))
+returns c =
+    let l = c .before .loop in
+    sym (ended (c .before .before .before .args .bytes .now) (l .c) (l .i) (c .loop-test .left)) ∙ l .inv .1
 
 pub run-spec : {M : Type 1} → statement M
 run-spec =

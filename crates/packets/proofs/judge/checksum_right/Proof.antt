@@ -1,5 +1,5 @@
 use lib.ListN.{length-take}
-use Rattle.packets.specs.Judge.{checksumRight}
+use Rattle.packets.proofs.Judgements.{right-by}
 use native.Mathlib.Omega.{arith}
 use borrow.Author.Needs.{needs}
 use Rattle.packets.proofs.judge.checksum_right.Statement.{statement}
@@ -52,8 +52,9 @@ add-result : tie.Need-add-result
 add-result c = search needs
 
 returns : tie.Need-returns
-unfolding checksumRight
-returns c = cc
+returns c =
+    let w = c .before .before .before .before .before .before .wide in
+    right-by (c .before .before .before .before .before .before .before .before .before .args .held .now) (w .result) (w .ensures .0) (c .before .before .before .before .checksum .result) (c .before .before .wide2 .result) (c .wide3 .result) (c .before .before .before .before .checksum .ensures) (c .before .before .wide2 .ensures .0) (c .wide3 .ensures .0)
 
 pub checksum-right-spec : {M : Type 1} → statement M
 checksum-right-spec =

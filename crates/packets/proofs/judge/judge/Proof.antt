@@ -1,6 +1,5 @@
 use mathlib.Core.Path.{sym}
-use Rattle.packets.proofs.Judgements.{shown, short, part, long, wrong, whole}
-use native.Mathlib.Omega.{arith}
+use Rattle.packets.proofs.Judgements.{shown, short, judged-long, judged-part, judged-whole, judged-wrong}
 use borrow.Author.Needs.{needs}
 use Rattle.packets.proofs.judge.judge.Statement.{statement}
 use Rattle.packets.proofs.judge.judge.Tie as tie
@@ -10,7 +9,7 @@ use Rattle.packets.proofs.judge.checksum_right.Reads as checksum-right-
 use Rattle.lists.proofs.wide.Reads as wide-reads
 
 returns : tie.Need-returns
-returns c = sym (shown _ (short (omega arith)))
+returns c = sym (shown (c .before .before .args .held .now) (short (c .if1 .taken)))
 
 shared-slice-read-wide : tie.Need-shared-slice-read-wide
 shared-slice-read-wide c = search needs
@@ -19,22 +18,28 @@ wide-requires : tie.Need-wide-requires
 wide-requires c κs = search needs
 
 returns-2 : tie.Need-returns-2
-returns-2 c = sym (shown _ (long (omega arith) (omega arith)))
+returns-2 c = let w = c .before .wide in judged-long (c .before .before .before .before .before .args .held .now) (w .result) (w .ensures .0) (c .before .before .before .if1 .left) (c .if2 .taken)
 
 add-if3 : tie.Need-add-if3
 add-if3 c = search needs
 
 returns-3 : tie.Need-returns-3
-returns-3 c = sym (shown _ (part (omega arith) (omega arith) (omega arith)))
+returns-3 c = let w = c .before .before .wide in judged-part (c .before .before .before .before .before .before .args .held .now) (w .result) (w .ensures .0) (c .before .before .before .before .if1 .left) (c .before .if2 .left) (c .if3 .taken)
 
 checksum-right-requires : tie.Need-checksum-right-requires
 checksum-right-requires c κs = search needs
 
 returns-4 : tie.Need-returns-4
-returns-4 c = sym (shown _ (whole (omega arith) (omega arith) (cc)))
+returns-4 c =
+    let w = c .before .before .before .before .wide in
+    let k = c .before .checksum-right in
+    judged-whole (c .before .before .before .before .before .before .before .before .args .held .now) (w .result) (w .ensures .0) (k .result) (k .ensures) (c .before .before .before .if2 .left) (c .before .before .if3 .left) (c .if4 .taken)
 
 returns-5 : tie.Need-returns-5
-returns-5 c = sym (shown _ (wrong (omega arith) (omega arith) (cc)))
+returns-5 c =
+    let w = c .before .before .before .before .wide in
+    let k = c .before .checksum-right in
+    judged-wrong (c .before .before .before .before .before .before .before .before .args .held .now) (w .result) (w .ensures .0) (k .result) (k .ensures) (c .before .before .before .if2 .left) (c .before .before .if3 .left) (c .if4 .left)
 
 pub judge-spec : {M : Type 1} → statement M
 judge-spec =
