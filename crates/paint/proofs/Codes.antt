@@ -9,29 +9,16 @@ use borrow.Author.Tests.{lt-ltb, le-ltb, leb-true, eqb-true}
 use lib.ListN.{getD, set, replicate}
 use Rattle.lists.specs.Tests.{_=?_, _≤?_}
 use Rattle.lists.proofs.Laws.{when-true, when-false}
-use Rattle.glyphs.specs.Glyphs.{eightFrom, nestedOf}
+use Rattle.glyphs.specs.Glyphs.{eightFrom}
 use Rattle.paint.specs.Draw.{sourceOf, drawnFrom, lowSix, codeDrawn}
 use Rattle.paint.specs.Repaint.{alike}
 use Rattle.paint.proofs.Changes.{both, alike-self}
 
--- glyph g is the eight rows from 8g on
-glyph-at : (flat : List ℕ) (g : ℕ) → g < 8 → eightFrom (getD (nestedOf flat) g []) 0 ≡ eightFrom flat (8 * g)
-unfolding nestedOf
-glyph-at flat zero h = refl
-glyph-at flat (suc zero) h = refl
-glyph-at flat (suc (suc zero)) h = refl
-glyph-at flat (suc (suc (suc zero))) h = refl
-glyph-at flat (suc (suc (suc (suc zero)))) h = refl
-glyph-at flat (suc (suc (suc (suc (suc zero))))) h = refl
-glyph-at flat (suc (suc (suc (suc (suc (suc zero)))))) h = refl
-glyph-at flat (suc (suc (suc (suc (suc (suc (suc zero))))))) h = refl
-glyph-at flat (suc (suc (suc (suc (suc (suc (suc (suc g)))))))) h = absurd (omega arith)
-
-pub drawn-special : (flat bytes : List ℕ) (code : ℕ) → code < 8 → codeDrawn (nestedOf flat) bytes code ≡ eightFrom flat (8 * code)
-unfolding codeDrawn sourceOf drawnFrom
-drawn-special flat bytes code h = rw (when-true _ _ _ (lt-ltb code 8 h)) (glyph-at flat code h)
-
 module _ (glyphs : List (List ℕ)) (bytes : List ℕ) (code : ℕ) where
+  pub drawn-special : code < 8 → codeDrawn glyphs bytes code ≡ eightFrom (getD glyphs code []) 0
+  unfolding codeDrawn sourceOf drawnFrom
+  drawn-special h = rw (when-true _ _ _ (lt-ltb code 8 h))
+
   pub drawn-font : 8 ≤ code → codeDrawn glyphs bytes code ≡ lowSix (eightFrom bytes (8 * code))
   unfolding codeDrawn sourceOf drawnFrom
   drawn-font h = rw (when-false _ _ _ (le-ltb code 8 h))

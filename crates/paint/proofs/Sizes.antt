@@ -10,7 +10,7 @@ use Rattle.lists.specs.Promise.{Determined}
 use Rattle.lists.specs.Tests.{when_then_else_}
 use Rattle.lists.proofs.Laws.{when-true, when-false}
 use Rattle.lists.proofs.Theorems.{one, and}
-use Rattle.paint.specs.Draw.{Shown, drawn}
+use Rattle.paint.specs.Draw.{Shown, shown, drawn}
 use Rattle.paint.specs.Repaint.{Repaints, RepaintsSized, DrawsAll}
 
 when-true-is : (A B : Type 0) → A → when true then A else B
@@ -56,6 +56,11 @@ module _ (before after : Shown) (font picture list : List ℕ) where
   unfolding when_then_else_
   sized-or-left true x y m n = and (one _) (and (one _) (one _)) x y (m .0, (m .1, m .2)) (n .0, (n .1, n .2))
   sized-or-left false x y m n = and (one _) (and (one _) (one _)) x y (m .0, (m .1, m .2)) (n .0, (n .1, n .2))
+
+-- a repaint with the glyphs that are meant
+pub glyphs-meant : (old new : List ℕ) (before before′ after after′ : List (List ℕ)) (font picture list : List ℕ) (r : ℕ) (picture′ list′ : List ℕ) → before ≡ before′ → after ≡ after′
+    → RepaintsSized (shown old before) (shown new after) font picture list r picture′ list′ → RepaintsSized (shown old before′) (shown new after′) font picture list r picture′ list′
+glyphs-meant old new before before′ after after′ font picture list r picture′ list′ e f h = rw (e, f) at h
 
 module _ (s : Shown) (font picture : List ℕ) where
   pub draws-left : (length picture ≡ 640 → ⊥) → DrawsAll s font picture picture

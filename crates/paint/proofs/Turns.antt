@@ -9,7 +9,7 @@ use lib.ListN.{length, set, length-set, length-append}
 use Rattle.lists.specs.Tests.{when_then_else_}
 use Rattle.lists.specs.Runs.{front}
 use Rattle.lists.proofs.Laws.{when-true, when-false, front-more}
-use Rattle.paint.specs.Draw.{Shown, shownFlat, cellDrawn, put, paint}
+use Rattle.paint.specs.Draw.{Shown, shown, cellDrawn, put, paint}
 use Rattle.paint.specs.Repaint.{alike, same, changedBelow, painted, RepaintsCell, Repaints}
 use Rattle.paint.proofs.Changes.{alike-self}
 use Rattle.paint.proofs.Paints.{length-put}
@@ -124,5 +124,5 @@ module _ (s : Shown) (font : List ℕ) where
   )
 
 -- the same codes and the same glyphs: nothing is repainted
-pub shown-again : (old new before after font picture list : List ℕ) → old ≡ new → before ≡ after → Repaints (shownFlat old before) (shownFlat new after) font picture list 0 picture list
-shown-again old new before after font picture list t g = rw (← t, ← g) (nothing-repainted (shownFlat old before) font picture list)
+pub shown-again : (old new : List ℕ) (before after : List (List ℕ)) (font picture list : List ℕ) → old ≡ new → before ≡ after → Repaints (shown old before) (shown new after) font picture list 0 picture list
+shown-again old new before after font picture list t g = rw (← t, ← g) (nothing-repainted (shown old before) font picture list)

@@ -15,10 +15,6 @@ pub record Shown : Type 0 where
 abbrev pub shown : List ℕ → List (List ℕ) → Shown
 shown codes glyphs = record { codes = codes; glyphs = glyphs }
 
--- codes shown, and glyphs one behind the other
-abbrev pub shownFlat : List ℕ → List ℕ → Shown
-shownFlat codes flat = shown codes (nestedOf flat)
-
 -- the codes shown are the text
 abbrev pub screen : Settings → List ℕ
 screen s = s .text

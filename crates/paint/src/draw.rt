@@ -2,7 +2,6 @@
 ghost use mathlib.Core.Path.{_≡_};
 ghost use Prim.Native.Nat.{_<_};
 ghost use lib.ListN.{length};
-ghost use Rattle.glyphs.specs.Glyphs.{nestedOf};
 ghost use Rattle.paint.specs.Draw.{placeOf, lowSix, codeDrawn, put};
 
 // Where byte k of a cell stands.
@@ -25,16 +24,15 @@ fn low_six(rows: [u8; 8]) -> [u8; 8]
     low
 }
 
-// The eight bytes that a code draws, from the glyphs one behind the other or from the font.
-pub fn draw(glyphs: &[u8], font: &[u8], code: u8) -> [u8; 8]
-    ensures { λ r. ⌜ r ≡ codeDrawn (nestedOf (now (glyphs .entry))) (now (font .entry)) code ⌝ }
+// The eight bytes that a code draws.
+pub fn draw(glyphs: [[u8; 8]; 8], font: &[u8], code: u8) -> [u8; 8]
+    ensures { λ r. ⌜ r ≡ codeDrawn glyphs (now (font .entry)) code ⌝ }
 {
-    let from = 8 * (code as u16);
     if code < 8 {
-        glyphs::eight(glyphs, from)
-    } else {
-        low_six(glyphs::eight(font, from))
+        let i = code as usize;
+        return glyphs[i];
     }
+    low_six(glyphs::eight(font, 8 * (code as u16)))
 }
 
 // A cell's eight bytes into the picture.

@@ -4,7 +4,7 @@ ghost use mathlib.Core.Bool.{true, _&&_, _||_};
 ghost use Prim.Native.Nat.{_<_, _≤_};
 ghost use lib.ListN.{length};
 ghost use Rattle.lists.specs.Tests.{_=?_, _≤?_};
-ghost use Rattle.paint.specs.Draw.{cellDrawn, drawn, shownFlat, shownBy};
+ghost use Rattle.paint.specs.Draw.{cellDrawn, drawn, shown, shownBy};
 ghost use Rattle.paint.specs.Repaint.{alike, RepaintsCell, Repaints, RepaintsSized, DrawsAll};
 use crate::draw::draw;
 use crate::draw::put_cell;
@@ -37,13 +37,13 @@ fn repaint_cell(
     cell: usize,
     old: &[u8],
     new: &[u8],
-    before: &[u8],
-    after: &[u8],
+    before: [[u8; 8]; 8],
+    after: [[u8; 8]; 8],
     same: bool,
     font: &[u8],
 ) -> bool
-    requires { ⌜ (length (now picture) ≡ 640) × (cell < 80) × (length (now old) ≡ 80) × (length (now new) ≡ 80) × (same ≡ true → now before ≡ now after) ⌝ }
-    ensures { λ r. ⌜ RepaintsCell cell (cellDrawn (shownFlat (now (old .entry)) (now (before .entry))) (now (font .entry)) cell) (cellDrawn (shownFlat (now (new .entry)) (now (after .entry))) (now (font .entry)) cell) (now (picture .entry)) r (now (picture .exit)) ⌝ }
+    requires { ⌜ (length (now picture) ≡ 640) × (cell < 80) × (length (now old) ≡ 80) × (length (now new) ≡ 80) × (same ≡ true → before ≡ after) ⌝ }
+    ensures { λ r. ⌜ RepaintsCell cell (cellDrawn (shown (now (old .entry)) before) (now (font .entry)) cell) (cellDrawn (shown (now (new .entry)) after) (now (font .entry)) cell) (now (picture .entry)) r (now (picture .exit)) ⌝ }
 {
     let a = old[cell];
     let b = new[cell];
@@ -67,14 +67,14 @@ fn repaint_cells(
     list: &mut [u8],
     old: &[u8],
     new: &[u8],
-    before: &[u8],
-    after: &[u8],
+    before: [[u8; 8]; 8],
+    after: [[u8; 8]; 8],
+    same: bool,
     font: &[u8],
 ) -> usize
-    requires { ⌜ (length (now old) ≡ 80) × (length (now new) ≡ 80) × (length (now before) ≡ 64) × (length (now after) ≡ 64) ⌝ }
-    ensures { λ r. ⌜ RepaintsSized (shownFlat (now (old .entry)) (now (before .entry))) (shownFlat (now (new .entry)) (now (after .entry))) (now (font .entry)) (now (picture .entry)) (now (list .entry)) r (now (picture .exit)) (now (list .exit)) ⌝ }
+    requires { ⌜ (length (now old) ≡ 80) × (length (now new) ≡ 80) × (same ≡ true → before ≡ after) ⌝ }
+    ensures { λ r. ⌜ RepaintsSized (shown (now (old .entry)) before) (shown (now (new .entry)) after) (now (font .entry)) (now (picture .entry)) (now (list .entry)) r (now (picture .exit)) (now (list .exit)) ⌝ }
 {
-    let same = alike_first(before, after, 64);
     if (picture.len() != 640) | (list.len() != 80) | (same & alike_first(old, new, 80)) {
         return 0;
     }
@@ -107,13 +107,23 @@ pub fn repaint(
     let new = after.text;
     let a = before.glyphs;
     let b = after.glyphs;
-    repaint_cells(picture, list, &old, &new, &a, &b, font)
+    let same = alike_first(&a, &b, 64);
+    repaint_cells(
+        picture,
+        list,
+        &old,
+        &new,
+        glyphs::nested(a),
+        glyphs::nested(b),
+        same,
+        font,
+    )
 }
 
 // Every cell drawn, whatever the picture held.
-fn draw_cells(picture: &mut [u8], text: &[u8], glyphs: &[u8], font: &[u8])
+fn draw_cells(picture: &mut [u8], text: &[u8], glyphs: [[u8; 8]; 8], font: &[u8])
     requires { ⌜ (length (now picture) ≡ 640) × (length (now text) ≡ 80) ⌝ }
-    ensures { λ r. ⌜ now (picture .exit) ≡ drawn (shownFlat (now (text .entry)) (now (glyphs .entry))) (now (font .entry)) ⌝ }
+    ensures { λ r. ⌜ now (picture .exit) ≡ drawn (shown (now (text .entry)) glyphs) (now (font .entry)) ⌝ }
 {
     let mut n: usize = 0;
     while n < 80 {
@@ -128,7 +138,7 @@ pub fn draw_all(picture: &mut [u8], s: Settings, font: &[u8])
 {
     if picture.len() == 640 {
         let text = s.text;
-        let glyphs = s.glyphs;
-        draw_cells(picture, &text, &glyphs, font);
+        let flat = s.glyphs;
+        draw_cells(picture, &text, glyphs::nested(flat), font);
     }
 }

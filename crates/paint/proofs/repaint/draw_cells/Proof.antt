@@ -2,7 +2,7 @@ use Prim.Native.Nat.{ℕ, _≤_, _-_}
 use mathlib.Core.Path.{_≡_, refl, _∙_}
 use mathlib.Core.Bool.{false}
 use lib.ListN.{length}
-use Rattle.paint.specs.Draw.{shownFlat, paint, cellDrawn}
+use Rattle.paint.specs.Draw.{shown, paint, cellDrawn}
 use Rattle.paint.proofs.Paints.{drawn-over}
 use Rattle.paint.proofs.Turns.{drawn-turn}
 use native.Mathlib.Omega.{arith}
@@ -15,7 +15,7 @@ use Rattle.paint.proofs.draw.draw.Reads as draw-reads
 use Rattle.paint.proofs.draw.put_cell.Reads as put-cell-reads
 
 abbrev Inv-loop : tie.InvT-loop
-Inv-loop picture₀ text glyphs font n₀ picture n = (n ≤ 80) × (picture ≡ paint (λ c. false) (cellDrawn (shownFlat text glyphs) font) picture₀ n) × (length picture ≡ length picture₀)
+Inv-loop picture₀ text glyphs font n₀ picture n = (n ≤ 80) × (picture ≡ paint (λ c. false) (cellDrawn (shown text glyphs) font) picture₀ n) × (length picture ≡ length picture₀)
 
 abbrev μ-loop : tie.MeasureT-loop
 μ-loop picture₀ text glyphs font n₀ picture n = 80 - n
@@ -41,20 +41,20 @@ loop-less c = search needs
 
 loop-again : tie.Need-loop-again Inv-loop μ-loop
 loop-again c =
-    let a = c .before .before .before .before .before .before .before .before .before .before .before .before .args in
+    let a = c .before .before .before .before .before .before .before .before .before .before .before .args in
     let l = c .before .before .before .before .before .before .before .loop in
     let p = c .before .before .put-cell in
-    (search needs, drawn-turn (shownFlat (a .text .now) (a .glyphs .now)) (a .font .now) (a .picture .now) (l .picture) _ _ (l .n) (c .before .before .before .draw .ensures) (l .inv .1) (p .ensures), p .kept .0 ∙ l .inv .2)
+    (search needs, drawn-turn (shown (a .text .now) (a .glyphs)) (a .font .now) (a .picture .now) (l .picture) _ _ (l .n) (c .before .before .before .draw .ensures) (l .inv .1) (p .ensures), p .kept .0 ∙ l .inv .2)
 
 same-length : tie.Need-same-length Inv-loop μ-loop
 same-length c = search needs
 
 returns : tie.Need-returns Inv-loop μ-loop
 returns c =
-    let a = c .before .before .before .before .before .before .args in
+    let a = c .before .before .before .before .before .args in
     let l = c .before .loop in
     let e : l .n ≡ 80 = omega arith in
-    (rw e at (l .inv .1)) ∙ drawn-over (shownFlat (a .text .now) (a .glyphs .now)) (a .font .now) (a .picture .now) (c .before .before .before .before .before .before .pre .0)
+    (rw e at (l .inv .1)) ∙ drawn-over (shown (a .text .now) (a .glyphs)) (a .font .now) (a .picture .now) (c .before .before .before .before .before .pre .0)
 
 pub draw-cells-spec : {M : Type 1} → statement M
 draw-cells-spec =

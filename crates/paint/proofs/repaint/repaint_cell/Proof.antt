@@ -2,7 +2,6 @@ use borrow.Author.Needs.{needs}
 use mathlib.Core.Path.{_≡_, refl, _∙_, sym, ap}
 use lib.ListN.{getD}
 use Rattle.lists.specs.Tests.{when_then_else_}
-use Rattle.glyphs.specs.Glyphs.{nestedOf}
 use Rattle.paint.specs.Draw.{codeDrawn}
 use Rattle.paint.proofs.Codes.{stays-alike}
 use Rattle.paint.proofs.Turns.{cell-left, cell-written}
@@ -27,8 +26,8 @@ stays-requires c κs = search needs
 returns : tie.Need-returns
 unfolding when_then_else_
 returns c =
-    let a = c .before .before .before .before .before .before .before .before .before .before .args in
-    let k = stays-alike (nestedOf (a .before .now)) (nestedOf (a .after .now)) (a .font .now) (getD (a .old .now) (a .cell) 0) (getD (a .new .now) (a .cell) 0) (a .same) (λ e. ap nestedOf (c .before .before .before .before .before .before .before .before .before .before .pre .4 e)) (sym (c .before .stays .ensures) ∙ c .if1 .taken) in
+    let a = c .before .before .before .before .before .before .before .before .args in
+    let k = stays-alike (a .before) (a .after) (a .font .now) (getD (a .old .now) (a .cell) 0) (getD (a .new .now) (a .cell) 0) (a .same) (c .before .before .before .before .before .before .before .before .pre .4) (sym (c .before .stays .ensures) ∙ c .if1 .taken) in
     (sym k, refl)
 
 draw-requires : tie.Need-draw-requires
@@ -48,8 +47,8 @@ alike-first-requires c κs = search needs
 
 returns-2 : tie.Need-returns-2
 returns-2 c =
-    let a = c .before .before .before .before .before .before .before .before .before .before .before .before .before .before .before .before .args in
-    cell-left (a .cell) (codeDrawn (nestedOf (a .before .now)) (a .font .now) (getD (a .old .now) (a .cell) 0)) (codeDrawn (nestedOf (a .after .now)) (a .font .now) (getD (a .new .now) (a .cell) 0)) (a .picture .now) _ _ _ (c .before .before .before .before .before .draw .ensures) (c .before .before .before .before .draw2 .ensures) (c .before .alike-first .ensures) (c .if2 .taken)
+    let a = c .before .before .before .before .before .before .before .before .before .before .before .before .before .before .args in
+    cell-left (a .cell) (codeDrawn (a .before) (a .font .now) (getD (a .old .now) (a .cell) 0)) (codeDrawn (a .after) (a .font .now) (getD (a .new .now) (a .cell) 0)) (a .picture .now) _ _ _ (c .before .before .before .before .before .draw .ensures) (c .before .before .before .before .draw2 .ensures) (c .before .alike-first .ensures) (c .if2 .taken)
 
 put-cell-requires : tie.Need-put-cell-requires
 put-cell-requires c κs = search needs
@@ -59,8 +58,8 @@ same-length c = search needs
 
 returns-3 : tie.Need-returns-3
 returns-3 c =
-    let a = c .before .before .before .before .before .before .before .before .before .before .before .before .before .before .before .before .before .before .before .before .args in
-    cell-written (a .cell) (codeDrawn (nestedOf (a .before .now)) (a .font .now) (getD (a .old .now) (a .cell) 0)) (codeDrawn (nestedOf (a .after .now)) (a .font .now) (getD (a .new .now) (a .cell) 0)) (a .picture .now) _ _ _ (c .before .before .before .before .before .before .before .before .before .draw .ensures) (c .before .before .before .before .before .before .before .before .draw2 .ensures) (c .before .before .before .before .before .alike-first .ensures) _ (c .before .before .before .before .if2 .left) (c .before .before .put-cell .ensures)
+    let a = c .before .before .before .before .before .before .before .before .before .before .before .before .before .before .before .before .before .before .args in
+    cell-written (a .cell) (codeDrawn (a .before) (a .font .now) (getD (a .old .now) (a .cell) 0)) (codeDrawn (a .after) (a .font .now) (getD (a .new .now) (a .cell) 0)) (a .picture .now) _ _ _ (c .before .before .before .before .before .before .before .before .before .draw .ensures) (c .before .before .before .before .before .before .before .before .draw2 .ensures) (c .before .before .before .before .before .alike-first .ensures) _ (c .before .before .before .before .if2 .left) (c .before .before .put-cell .ensures)
 
 pub repaint-cell-spec : {M : Type 1} → statement M
 repaint-cell-spec =

@@ -2,7 +2,7 @@ use Prim.Native.Nat.{ℕ, _≤_, _-_}
 use mathlib.Core.Path.{_≡_, refl, _∙_, sym, ap}
 use mathlib.Core.Bool.{_&&_}
 use lib.ListN.{length}
-use Rattle.paint.specs.Draw.{shownFlat}
+use Rattle.paint.specs.Draw.{shown}
 use Rattle.paint.proofs.Changes.{both, alike-whole}
 use Rattle.paint.proofs.Sizes.{both-sized, repaint-left, sized-repaints}
 use Rattle.paint.proofs.Turns.{Reached, reached-first, reached-left, reached-listed, reached-all, shown-again}
@@ -16,38 +16,33 @@ use Rattle.paint.proofs.repaint.alike_first.Reads as alike-first-reads
 use Rattle.paint.proofs.repaint.repaint_cell.Reads as repaint-cell-reads
 
 abbrev Inv-loop : tie.InvT-loop
-Inv-loop picture₀ list₀ old new before after font same listed₀ cell₀ picture list listed cell = Reached (shownFlat old before) (shownFlat new after) font picture₀ list₀ cell picture list listed
+Inv-loop picture₀ list₀ old new before after same font listed₀ cell₀ picture list listed cell = Reached (shown old before) (shown new after) font picture₀ list₀ cell picture list listed
 
 abbrev μ-loop : tie.MeasureT-loop
-μ-loop picture₀ list₀ old new before after font same listed₀ cell₀ picture list listed cell = 80 - cell
+μ-loop picture₀ list₀ old new before after same font listed₀ cell₀ picture list listed cell = 80 - cell
 
 alike-first-requires : tie.Need-alike-first-requires Inv-loop μ-loop
 alike-first-requires c κs = search needs
 
-alike-first-requires-2 : tie.Need-alike-first-requires-2 Inv-loop μ-loop
-alike-first-requires-2 c κs = search needs
-
 returns : tie.Need-returns Inv-loop μ-loop
 returns c =
-    let a = c .before .before .before .before .before .before .before .before .before .before .args in
-    let p = c .before .before .before .before .before .before .before .before .before .before .pre in
-    let f = c .before .before .alike-first in
-    let g = c .before .alike-first2 in
-    repaint-left (shownFlat (a .old .now) (a .before .now)) (shownFlat (a .new .now) (a .after .now)) (a .font .now) (a .picture .now) (a .list .now) (f .result && g .result) (c .if1 .taken) (λ t.
-    let h = both (f .result) (g .result) t in
-    shown-again (a .old .now) (a .new .now) (a .before .now) (a .after .now) (a .font .now) (a .picture .now) (a .list .now) (alike-whole 80 (a .old .now) (a .new .now) (p .0) (p .1) (sym (g .ensures) ∙ h .1)) (alike-whole 64 (a .before .now) (a .after .now) (p .2) (p .3) (sym (f .ensures) ∙ h .0)))
+    let a = c .before .before .before .before .before .before .before .args in
+    let p = c .before .before .before .before .before .before .before .pre in
+    let f = c .before .alike-first in
+    repaint-left (shown (a .old .now) (a .before)) (shown (a .new .now) (a .after)) (a .font .now) (a .picture .now) (a .list .now) (a .same && f .result) (c .if1 .taken) (λ t.
+    let h = both (a .same) (f .result) t in
+    shown-again (a .old .now) (a .new .now) (a .before) (a .after) (a .font .now) (a .picture .now) (a .list .now) (alike-whole 80 (a .old .now) (a .new .now) (p .0) (p .1) (sym (f .ensures) ∙ h .1)) (p .2 (h .0)))
 
 loop-holds : tie.Need-loop-holds Inv-loop μ-loop
 loop-holds c =
-    let a = c .before .before .before .before .before .before .before .before .before .before .args in
+    let a = c .before .before .before .before .before .before .before .args in
     let z = both-sized (length (a .picture .now)) (length (a .list .now)) _ (c .if1 .left) in
-    reached-first (shownFlat (a .old .now) (a .before .now)) (shownFlat (a .new .now) (a .after .now)) (a .font .now) (a .picture .now) (a .list .now) (z .0) (z .1)
+    reached-first (shown (a .old .now) (a .before)) (shown (a .new .now) (a .after)) (a .font .now) (a .picture .now) (a .list .now) (z .0) (z .1)
 
 repaint-cell-requires : tie.Need-repaint-cell-requires Inv-loop μ-loop
 repaint-cell-requires c κs =
-    let a = c .before .before .before .before .before .before .before .before .before .before .before .before .before .args in
-    let p = c .before .before .before .before .before .before .before .before .before .before .before .before .before .pre in
-    (c .before .before .loop .inv .5, c .before .loop-test .taken, p .0, p .1, λ e. alike-whole 64 (a .before .now) (a .after .now) (p .2) (p .3) (sym (c .before .before .before .before .before .alike-first .ensures) ∙ e))
+    let p = c .before .before .before .before .before .before .before .before .before .before .pre in
+    (c .before .before .loop .inv .5, c .before .loop-test .taken, p .0, p .1, p .2)
 
 add-cell : tie.Need-add-cell Inv-loop μ-loop
 add-cell c = search needs
@@ -57,9 +52,9 @@ loop-less c = search needs
 
 loop-again : tie.Need-loop-again Inv-loop μ-loop
 loop-again c =
-    let a = c .before .before .before .before .before .before .before .before .before .before .before .before .before .before .before .before .before .args in
+    let a = c .before .before .before .before .before .before .before .before .before .before .before .before .before .before .args in
     let l = c .before .before .before .before .before .before .loop in
-    reached-left (shownFlat (a .old .now) (a .before .now)) (shownFlat (a .new .now) (a .after .now)) (a .font .now) (a .picture .now) (a .list .now) (l .cell) (l .picture) (l .list) (l .listed) _ _ (c .before .before .before .before .before .loop-test .taken) (c .before .before .before .repaint-cell .ensures) (l .inv) (c .if2 .taken)
+    reached-left (shown (a .old .now) (a .before)) (shown (a .new .now) (a .after)) (a .font .now) (a .picture .now) (a .list .now) (l .cell) (l .picture) (l .list) (l .listed) _ _ (c .before .before .before .before .before .loop-test .taken) (c .before .before .before .repaint-cell .ensures) (l .inv) (c .if2 .taken)
 
 cast-list : tie.Need-cast-list Inv-loop μ-loop
 cast-list c = search needs
@@ -78,29 +73,29 @@ loop-less-2 c = search needs
 
 loop-again-2 : tie.Need-loop-again-2 Inv-loop μ-loop
 loop-again-2 c =
-    let a = c .before .before .before .before .before .before .before .before .before .before .before .before .before .before .before .before .before .args in
+    let a = c .before .before .before .before .before .before .before .before .before .before .before .before .before .before .args in
     let l = c .before .before .before .before .before .before .loop in
     let z = both-sized (length (a .picture .now)) (length (a .list .now)) _ (c .before .before .before .before .before .before .before .if1 .left) in
-    reached-listed (shownFlat (a .old .now) (a .before .now)) (shownFlat (a .new .now) (a .after .now)) (a .font .now) (a .picture .now) (a .list .now) (l .cell) (l .picture) (l .list) (l .listed) _ _ (c .before .before .before .before .before .loop-test .taken) (c .before .before .before .repaint-cell .ensures) (l .inv) (z .1) (c .if2 .left)
+    reached-listed (shown (a .old .now) (a .before)) (shown (a .new .now) (a .after)) (a .font .now) (a .picture .now) (a .list .now) (l .cell) (l .picture) (l .list) (l .listed) _ _ (c .before .before .before .before .before .loop-test .taken) (c .before .before .before .repaint-cell .ensures) (l .inv) (z .1) (c .if2 .left)
 
 same-length : tie.Need-same-length Inv-loop μ-loop
 same-length c =
-    let a = c .before .before .before .before .before .before .before .before .before .before .before .before .args in
+    let a = c .before .before .before .before .before .before .before .before .before .args in
     let z = both-sized (length (a .picture .now)) (length (a .list .now)) _ (c .before .before .if1 .left) in
     c .before .loop .inv .5 ∙ sym (z .0)
 
 same-length-2 : tie.Need-same-length-2 Inv-loop μ-loop
 same-length-2 c =
-    let a = c .before .before .before .before .before .before .before .before .before .before .before .before .args in
+    let a = c .before .before .before .before .before .before .before .before .before .args in
     let z = both-sized (length (a .picture .now)) (length (a .list .now)) _ (c .before .before .if1 .left) in
     c .before .loop .inv .6 ∙ sym (z .1)
 
 returns-2 : tie.Need-returns-2 Inv-loop μ-loop
 returns-2 c =
-    let a = c .before .before .before .before .before .before .before .before .before .before .before .before .args in
+    let a = c .before .before .before .before .before .before .before .before .before .args in
     let l = c .before .loop in
     let z = both-sized (length (a .picture .now)) (length (a .list .now)) _ (c .before .before .if1 .left) in
-    sized-repaints (shownFlat (a .old .now) (a .before .now)) (shownFlat (a .new .now) (a .after .now)) (a .font .now) (a .picture .now) (a .list .now) _ _ _ (z .0) (z .1) (reached-all _ _ _ _ _ (l .cell) _ _ _ (c .loop-test .left) (l .inv))
+    sized-repaints (shown (a .old .now) (a .before)) (shown (a .new .now) (a .after)) (a .font .now) (a .picture .now) (a .list .now) _ _ _ (z .0) (z .1) (reached-all _ _ _ _ _ (l .cell) _ _ _ (c .loop-test .left) (l .inv))
 
 pub repaint-cells-spec : {M : Type 1} → statement M
 repaint-cells-spec =
@@ -109,7 +104,6 @@ repaint-cells-spec =
     Inv-loop
     μ-loop
     alike-first-requires
-    alike-first-requires-2
     returns
     loop-holds
     repaint-cell-requires
