@@ -1,20 +1,18 @@
 -- Laws of the glyphs, nested and flat.
 use mathlib.Core.Path.{_≡_, refl, sym, _∙_, ap}
-use mathlib.Core.Logic.{dite}
 use mathlib.Core.List.{List, [], _∷_, map}
-use Prim.Native.Nat.{ℕ, zero, suc, _+_, _*_, _-_, _<_, _≤_, min}
-use native.Mathlib.Decide.{decLt}
+use Prim.Native.Nat.{ℕ, zero, suc, _+_, _*_, _<_, _≤_}
 use native.Mathlib.Numerals.{add-one}
 use native.Mathlib.Omega.{arith}
-use lib.ListN.{length, getD, take, drop, replicate, length-append, length-take, length-drop, drop-of-length-le, List·getD-eq-default}
-use lib.Seq.{drop-cons, take-nil}
+use lib.ListN.{length, getD, set, drop, replicate, length-append, drop-of-length-le}
+use lib.Seq.{drop-cons}
 use mir.Syntax.{w8}
 use mir.Val.{Val}
 use denote.Array.{each, inArray}
 use denote.Plain.{UInt}
 use denote.Shadow.{shadow}
 use Rattle.lists.specs.Runs.{front, pasted}
-use Rattle.lists.proofs.Laws.{front-run, pasted-front, take-most, drop-most}
+use Rattle.lists.proofs.Laws.{front-run}
 use Rattle.glyphs.specs.Glyphs.{eightFrom, nestedOf, flatFirst, flatOf}
 
 pub length-flat : (n : ℕ) (glyphs : List (List ℕ)) → length (flatFirst n glyphs) ≡ 8 * n
@@ -38,39 +36,34 @@ pub all-elements {ℓ} : {A : Type ℓ} (d : A) (l : List A) (k n : ℕ) → len
 all-elements d l k zero h = sym (drop-of-length-le l {i = k} (omega arith))
 all-elements d l k (suc n) h = rw (all-elements d l (suc k) n (omega arith)) (sym (drop-cons l k d (omega arith)))
 
--- they are what there is of the list, with zeros behind
-zeros-behind : (l : List ℕ) (k n : ℕ) → front (take n (drop k l)) (replicate n 0) ≡ elements 0 l k n
-zeros-behind l k zero = refl
-zeros-behind l k (suc n) =
-    dite (decLt k (length l)) (λ h. rw (drop-cons l k 0 h) (ap (λ (r : List ℕ). getD l k 0 ∷ r) (zeros-behind l (suc k) n)))
-    (λ h.
-    let none : drop k l ≡ [] = drop-of-length-le l {i = k} (omega arith) in
-    let still : drop (suc k) l ≡ [] = drop-of-length-le l {i = suc k} (omega arith) in
-    let nought : getD l k 0 ≡ 0 = List·getD-eq-default l 0 {n = k} (omega arith) in
-    let rest : front (take n (drop (suc k) l)) (replicate n 0) ≡ replicate n 0 = rw (still, take-nil n) in
-    rw (none, nought) (ap (λ (r : List ℕ). 0 ∷ r) (sym rest ∙ zeros-behind l (suc k) n)))
+-- eight numbers read one by one, zeros behind the first n
+unfoldable pub eightFirst : List ℕ → ℕ → ℕ → List ℕ
+eightFirst l from zero = replicate 8 0
+eightFirst l from (suc k) = set (eightFirst l from k) k (getD l (from + k) 0)
 
-eight-elements : (l : List ℕ) (k : ℕ) → elements 0 l k 8 ≡ eightFrom l k
-eight-elements l k =
-    let s₁ : suc k ≡ k + 1 = omega arith in
-    let s₂ : suc (suc k) ≡ k + 2 = omega arith in
-    let s₃ : suc (suc (suc k)) ≡ k + 3 = omega arith in
-    let s₄ : suc (suc (suc (suc k))) ≡ k + 4 = omega arith in
-    let s₅ : suc (suc (suc (suc (suc k)))) ≡ k + 5 = omega arith in
-    let s₆ : suc (suc (suc (suc (suc (suc k))))) ≡ k + 6 = omega arith in
-    let s₇ : suc (suc (suc (suc (suc (suc (suc k)))))) ≡ k + 7 = omega arith in
-    λ i. getD l k 0 ∷ getD l (s₁ i) 0 ∷ getD l (s₂ i) 0 ∷ getD l (s₃ i) 0 ∷ getD l (s₄ i) 0 ∷ getD l (s₅ i) 0 ∷ getD l (s₆ i) 0 ∷ getD l (s₇ i) 0 ∷ []
+pub eight-turn : (l : List ℕ) (from k b : ℕ) (rows : List ℕ) → rows ≡ eightFirst l from k → b ≡ getD l (from + k) 0 → set rows k b ≡ eightFirst l from (k + 1)
+unfolding eightFirst
+eight-turn l from k b rows e f = rw (add-one k) (λ i. set (e i) k (f i))
 
--- what there is of eight, laid into eight zeros
-pub eight-pasted : (l : List ℕ) (from k n : ℕ) (rows : List ℕ) → k ≡ min from (length l)
-    → rows ≡ pasted (replicate 8 0) 0 (take n (drop k l)) → min n (length l - k) ≡ min 8 (length l - k) → rows ≡ eightFrom l from
-eight-pasted l from k n rows e p h =
-    let d = length-drop k l in
-    let m = min n (length l - k) in
-    let most : take n (drop k l) ≡ take 8 (drop k l) = sym (take-most m n (drop k l) (omega arith)) ∙ take-most m 8 (drop k l) (omega arith) in
-    let there : take n (drop k l) ≡ take 8 (drop from l) = most ∙ ap (take 8) (drop-most k from l (omega arith)) in
-    let fits : length (take 8 (drop from l)) ≤ 8 = omega (arith, length-take 8 (drop from l)) in
-    p ∙ rw there (pasted-front (take 8 (drop from l)) (replicate 8 0) fits ∙ zeros-behind l from 8 ∙ eight-elements l from)
+pub eight-all : (l : List ℕ) (from k : ℕ) (rows : List ℕ) → k ≡ 8 → rows ≡ eightFirst l from k → rows ≡ eightFrom l from
+unfolding eightFirst
+eight-all l from k rows e h =
+    let z : from + 0 ≡ from = omega arith in
+    (rw e at h)
+    ∙ (λ i. getD l (z i) 0 ∷ getD l (from + 1) 0 ∷ getD l (from + 2) 0 ∷ getD l (from + 3) 0 ∷ getD l (from + 4) 0 ∷ getD l (from + 5) 0 ∷ getD l (from + 6) 0 ∷ getD l (from + 7) 0 ∷ [])
+
+-- eight glyphs read one by one, glyphs of zeros behind the first n
+unfoldable pub nestedFirst : List ℕ → ℕ → List (List ℕ)
+nestedFirst flat zero = replicate 8 (replicate 8 0)
+nestedFirst flat (suc g) = set (nestedFirst flat g) g (eightFrom flat (8 * g))
+
+pub nested-turn : (flat : List ℕ) (g : ℕ) (rows : List ℕ) (glyphs : List (List ℕ)) → glyphs ≡ nestedFirst flat g → rows ≡ eightFrom flat (8 * g) → set glyphs g rows ≡ nestedFirst flat (g + 1)
+unfolding nestedFirst
+nested-turn flat g rows glyphs e f = rw (add-one g) (λ i. set (e i) g (f i))
+
+pub nested-all : (flat : List ℕ) (g : ℕ) (glyphs : List (List ℕ)) → g ≡ 8 → glyphs ≡ nestedFirst flat g → glyphs ≡ nestedOf flat
+unfolding nestedFirst nestedOf
+nested-all flat g glyphs e h = rw e at h
 
 pub eight-whole : (l : List ℕ) → length l ≡ 8 → eightFrom l 0 ≡ l
 eight-whole l h = all-elements 0 l 0 8 h

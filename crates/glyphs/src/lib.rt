@@ -6,11 +6,10 @@ pub fn eight(bytes: &[u8], from: u16) -> [u8; 8]
     ensures { λ r. ⌜ Reads8 (now (bytes .entry)) from r ⌝ }
 {
     let mut rows = [0u8; 8];
-    let k = lists::at_most(from as usize, bytes.len());
-    if k + 8 <= bytes.len() {
-        lists::paste(&mut rows, 0, &bytes[k..k + 8]);
-    } else {
-        lists::paste(&mut rows, 0, &bytes[k..]);
+    let mut k: usize = 0;
+    while k < 8 {
+        rows[k] = lists::at(bytes, from as usize + k);
+        k += 1;
     }
     rows
 }
@@ -19,16 +18,13 @@ pub fn eight(bytes: &[u8], from: u16) -> [u8; 8]
 pub fn nested(flat: [u8; 64]) -> [[u8; 8]; 8]
     ensures { λ r. ⌜ Nests flat r ⌝ }
 {
-    [
-        eight(&flat, 0),
-        eight(&flat, 8),
-        eight(&flat, 16),
-        eight(&flat, 24),
-        eight(&flat, 32),
-        eight(&flat, 40),
-        eight(&flat, 48),
-        eight(&flat, 56),
-    ]
+    let mut glyphs = [[0u8; 8]; 8];
+    let mut n: u16 = 0;
+    while n < 8 {
+        glyphs[n as usize] = eight(&flat, 8 * n);
+        n += 1;
+    }
+    glyphs
 }
 
 // The glyphs one behind the other.

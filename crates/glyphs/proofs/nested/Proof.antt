@@ -1,4 +1,6 @@
-use Rattle.glyphs.specs.Glyphs.{nestedOf}
+use Prim.Native.Nat.{ℕ, _≤_, _-_}
+use mathlib.Core.Path.{_≡_, refl}
+use Rattle.glyphs.proofs.Flat.{nestedFirst, nested-turn, nested-all}
 use native.Mathlib.Omega.{arith}
 use borrow.Author.Needs.{needs}
 use Rattle.glyphs.proofs.nested.Statement.{statement}
@@ -7,76 +9,64 @@ use Rattle.glyphs.proofs.nested.Reads as reads
 use Rattle.glyphs.proofs.nested.Lts as lts
 use Rattle.glyphs.proofs.eight.Reads as eight-reads
 
-slice-aggregate-eight : tie.Need-slice-aggregate-eight
+abbrev Inv-loop : tie.InvT-loop
+Inv-loop flat glyphs₀ n₀ glyphs n = (n ≤ 8) × (glyphs ≡ nestedFirst flat n)
+
+abbrev μ-loop : tie.MeasureT-loop
+μ-loop flat glyphs₀ n₀ glyphs n = 8 - n
+
+loop-holds : tie.Need-loop-holds Inv-loop μ-loop
+unfolding nestedFirst
+loop-holds c = (search needs, refl)
+
+slice-aggregate-eight : tie.Need-slice-aggregate-eight Inv-loop μ-loop
 slice-aggregate-eight c = search needs
 
-eight-requires : tie.Need-eight-requires
+mul-eight : tie.Need-mul-eight Inv-loop μ-loop
+mul-eight c = search needs
+
+eight-requires : tie.Need-eight-requires Inv-loop μ-loop
 eight-requires c κs = search needs
 
-slice-aggregate-eight-2 : tie.Need-slice-aggregate-eight-2
-slice-aggregate-eight-2 c = search needs
+cast-glyphs : tie.Need-cast-glyphs Inv-loop μ-loop
+cast-glyphs c = search needs
 
-eight-requires-2 : tie.Need-eight-requires-2
-eight-requires-2 c κs = search needs
+mul-glyphs : tie.Need-mul-glyphs Inv-loop μ-loop
+mul-glyphs c = search needs
 
-slice-aggregate-eight-3 : tie.Need-slice-aggregate-eight-3
-slice-aggregate-eight-3 c = search needs
+array-set-from-glyphs : tie.Need-array-set-from-glyphs Inv-loop μ-loop
+array-set-from-glyphs c = search needs
 
-eight-requires-3 : tie.Need-eight-requires-3
-eight-requires-3 c κs = search needs
+add-n : tie.Need-add-n Inv-loop μ-loop
+add-n c = search needs
 
-slice-aggregate-eight-4 : tie.Need-slice-aggregate-eight-4
-slice-aggregate-eight-4 c = search needs
+loop-less : tie.Need-loop-less Inv-loop μ-loop
+loop-less c = search needs
 
-eight-requires-4 : tie.Need-eight-requires-4
-eight-requires-4 c κs = search needs
+loop-again : tie.Need-loop-again Inv-loop μ-loop
+loop-again c =
+    let l = c .before .before .before .loop in
+    (search needs, nested-turn (c .before .before .before .before .args .t1) (l .n) (c .eight .result) (l .glyphs) (l .inv .1) (c .eight .ensures))
 
-slice-aggregate-eight-5 : tie.Need-slice-aggregate-eight-5
-slice-aggregate-eight-5 c = search needs
-
-eight-requires-5 : tie.Need-eight-requires-5
-eight-requires-5 c κs = search needs
-
-slice-aggregate-eight-6 : tie.Need-slice-aggregate-eight-6
-slice-aggregate-eight-6 c = search needs
-
-eight-requires-6 : tie.Need-eight-requires-6
-eight-requires-6 c κs = search needs
-
-slice-aggregate-eight-7 : tie.Need-slice-aggregate-eight-7
-slice-aggregate-eight-7 c = search needs
-
-eight-requires-7 : tie.Need-eight-requires-7
-eight-requires-7 c κs = search needs
-
-slice-aggregate-eight-8 : tie.Need-slice-aggregate-eight-8
-slice-aggregate-eight-8 c = search needs
-
-eight-requires-8 : tie.Need-eight-requires-8
-eight-requires-8 c κs = search needs
-
-returns : tie.Need-returns
-unfolding nestedOf
-returns c = rw (c .before .before .before .before .before .before .before .before .before .before .before .before .before .before .eight .ensures, c .before .before .before .before .before .before .before .before .before .before .before .before .eight2 .ensures, c .before .before .before .before .before .before .before .before .before .before .eight3 .ensures, c .before .before .before .before .before .before .before .before .eight4 .ensures, c .before .before .before .before .before .before .eight5 .ensures, c .before .before .before .before .eight6 .ensures, c .before .before .eight7 .ensures, c .eight8 .ensures)
+returns : tie.Need-returns Inv-loop μ-loop
+returns c =
+    let l = c .before .loop in
+    nested-all (c .before .before .args .t1) (l .n) (l .glyphs) (omega arith) (l .inv .1)
 
 pub nested-spec : {M : Type 1} → statement M
 nested-spec =
     tie.close
     (tie.spec
+    Inv-loop
+    μ-loop
+    loop-holds
     slice-aggregate-eight
+    mul-eight
     eight-requires
-    slice-aggregate-eight-2
-    eight-requires-2
-    slice-aggregate-eight-3
-    eight-requires-3
-    slice-aggregate-eight-4
-    eight-requires-4
-    slice-aggregate-eight-5
-    eight-requires-5
-    slice-aggregate-eight-6
-    eight-requires-6
-    slice-aggregate-eight-7
-    eight-requires-7
-    slice-aggregate-eight-8
-    eight-requires-8
+    cast-glyphs
+    mul-glyphs
+    array-set-from-glyphs
+    add-n
+    loop-less
+    loop-again
     returns)
