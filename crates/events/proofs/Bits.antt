@@ -25,6 +25,14 @@ unlike true false e = refl
 unlike false true e = refl
 unlike false false e = sym e
 
+pub beq-true : (b : Bool) → Bool·beq b true ≡ b
+beq-true true = refl
+beq-true false = refl
+
+pub beq-false : (b : Bool) → Bool·beq b false ≡ not b
+beq-false true = refl
+beq-false false = refl
+
 -- 1 shifted in a byte
 pub shifted : (k : ℕ) → k < 8 → 1 * 2 ^ k % 256 ≡ 2 ^ k
 shifted k h = rw (one-mul, mod-eq-of-lt (pow-lt h))

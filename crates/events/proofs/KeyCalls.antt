@@ -1,38 +1,68 @@
 -- What a key call comes to: refused by the first check that fails, or accepted, with a report or without.
-use Prim.Native.Nat.{ℕ, _<_, _≤_}
-use mathlib.Core.Path.{_≡_, sym, _∙_, ap}
-use mathlib.Core.Bool.{Bool, true, false, not}
+use Prim.Native.Nat.{ℕ, _+_, _<_, _≤_}
+use mathlib.Core.Path.{_≡_, refl, sym, _∙_, ap}
+use mathlib.Core.Bool.{Bool, true, false, not, _&&_, and-eq-true-iff, Bool·beq}
 use mathlib.Core.List.{List, [], _∷_}
 use native.Mathlib.Omega.{arith}
-use borrow.Author.Tests.{eqb-true, leb-true}
-use Rattle.lists.proofs.Laws.{when-true, when-false}
-use Rattle.packets.specs.Packet.{composedLength, composed, Composes}
+use lib.ListN.{length}
+use borrow.Author.Tests.{eqb-true, leb-true, not-true, not-false}
+use Rattle.lists.specs.Tests.{when_then_else_, _=?_}
+use Rattle.lists.specs.Runs.{front}
+use Rattle.lists.proofs.Laws.{when-true}
+use Rattle.packets.specs.Packet.{composable, composedLength, composed}
 use Rattle.packets.proofs.Composing.{fitting}
+use Rattle.panel.specs.declared.state.Settings.{Settings}
 use Rattle.panel.specs.declared.state.Keys.{Keys}
+use Rattle.panel.specs.declared.state.Body.{Body}
 use Rattle.panel.specs.declared.state.Panel.{Panel}
 use Rattle.panel.specs.Ranges.{inRanges}
 use Rattle.answers.specs.declared.Answer.{Answer}
 use Rattle.answers.specs.declared.Said.{Said}
-use Rattle.answers.specs.Answer.{numbersOf, refusedCall}
-use Rattle.events.specs.Keys.{isOn, keyEvent, reportCode, asTold, keyChecks, reports, keyAccepted, keyReply, Presses}
-use Rattle.answers.proofs.Checks.{Fails, Pass, ByNumber, refused-by, accepted-by, call-passed}
+use Rattle.answers.specs.declared.Answer.the-variants.{KeyAsTold}
+use Rattle.answers.specs.Answer.{numbersOf, Check, check, decided, refusedCall}
+use Rattle.carry.specs.Carry.{withKeys}
+use Rattle.events.specs.Keys.{isOn, keyEvent, maskFor, reportCode, reportBytes, asTold, keyChecks, reports, withBody, keyAccepted, Presses, acceptedEvent, earlyChecks, early, moving, maskOf, ReportsBy}
+use Rattle.answers.proofs.Checks.{Fails, here, later, Pass, ByNumber, refused-by, accepted-by, call-passed}
+use Rattle.events.proofs.Bits.{beq-true, beq-false}
 use Rattle.events.proofs.Events.{event-in-range}
 use Rattle.panel.proofs.InRange.{KeysParts, panel-parts, panel-whole, keys-parts, keys-whole}
 
 -- the key is as told where its bit is what it is told
-pub as-told : (down : Bool) (number : ℕ) (k : Keys) → isOn (k .down) number ≡ down → asTold down number k ≡ true
+as-told : (down : Bool) (number : ℕ) (k : Keys) → Bool·beq (isOn (k .down) number) down ≡ asTold down number k
 unfolding asTold
-as-told true number k e = e
-as-told false number k e = rw e
+as-told true number k = beq-true (isOn (k .down) number)
+as-told false number k = beq-false (isOn (k .down) number)
 
-pub not-as-told : (down : Bool) (number : ℕ) (k : Keys) → isOn (k .down) number ≡ not down → asTold down number k ≡ false
-unfolding asTold
-not-as-told true number k e = e
-not-as-told false number k e = rw e
+-- of four checks that do not all pass the first that fails answers
+first-failing : (a b c d : Bool) {e f g h : Answer} → ((a && b) && c) && d ≡ false
+    → Fails (check a e ∷ check b f ∷ check c g ∷ check d h ∷ []) (decided (check a e ∷ check b f ∷ check c g ∷ []) (λ x. x) h)
+unfolding decided when_then_else_
+first-failing false b c d n = here refl
+first-failing true false c d n = later refl (here refl)
+first-failing true true false d n = later refl (later refl (here refl))
+first-failing true true true d n = later refl (later refl (later refl (here n)))
 
 module _ (p : Panel) (number : ℕ) (down : Bool) (reply : List ℕ) where
   pub key-refused : (a : Answer) (r : Said) → Fails (keyChecks p number down reply) a → r ≡ refusedCall p a → Presses p number down reply r reply
   key-refused a r f e = (e ∙ sym (refused-by f _ _), sym (refused-by f _ _))
+
+  -- the checks on plain values, of a state found to be in its ranges or not, are those of the call
+  module _ (inRange moves : Bool) (i : inRange ≡ inRanges p) (m : moves ≡ moving inRange (length reply) number (p .body .keys .down) down) where
+    passes : moves ≡ early (inRanges p) (length reply) number && not (asTold down number (p .body .keys))
+    passes = m ∙ (λ j. early (i j) (length reply) number && not (as-told down number (p .body .keys) j))
+
+    pub key-turned-away : (a : Answer) (r : Said) → not moves ≡ true → a ≡ decided (earlyChecks inRange (length reply) number) (λ x. x) KeyAsTold → r ≡ refusedCall p a
+        → Presses p number down reply r reply
+    key-turned-away a r n ea er =
+        key-refused _ r (first-failing _ _ _ _ (sym passes ∙ not-true _ n))
+        (er ∙ ap (refusedCall p) (ea ∙ ap (λ (b : Bool). decided (earlyChecks b (length reply) number) (λ x. x) KeyAsTold) i))
+
+    pub key-let-through : not moves ≡ false → Pass (keyChecks p number down reply)
+    key-let-through n =
+        let h = and-eq-true-iff (early (inRanges p) (length reply) number) _ .0 (sym passes ∙ not-false _ n) in
+        let g = and-eq-true-iff (inRanges p && (length reply =? 26)) _ .0 (h .0) in
+        let k = and-eq-true-iff (inRanges p) _ .0 (g .0) in
+        (k .0, (k .1, (g .1, (h .1, tt))))
 
   pub key-by-number : ByNumber (keyChecks p number down reply)
   unfolding numbersOf
@@ -45,15 +75,26 @@ module _ (p : Panel) (number : ℕ) (down : Bool) (reply : List ℕ) where
     pub keys-before : KeysParts (p .body .keys)
     keys-before = keys-parts _ (panel-parts p (passed .0) .keys)
 
-    pub key-silent : reports p number down ≡ false → reply ≡ keyReply p number down reply
-    key-silent e = sym (accepted-by _ passed _ _ ∙ when-false _ _ _ e)
+    mask-is : (s : Settings) (d : Bool) → maskOf d (s .press) (s .release) ≡ maskFor d s
+    mask-is s true = refl
+    mask-is s false = refl
 
-    pub key-reported : reports p number down ≡ true → (written : ℕ) (reply′ : List ℕ) → Composes reply 128 (reportCode down number ∷ []) written reply′
-        → (written ≡ 5) × (reply′ ≡ keyReply p number down reply)
+    composes : composable reply (reportCode down number ∷ []) ≡ true
+    composes = fitting reply (reportCode down number ∷ []) (eqb-true _ _ (passed .1 .0)) (omega arith)
+
+    -- the event and its report, put together
+    pub key-accepted : (keys : Keys) (b : Body) (mask written : ℕ) (reply′ : List ℕ) (r : Said)
+        → keys ≡ keyEvent down number (p .body .keys) → b ≡ withKeys (p .body) keys → mask ≡ maskOf down (p .body .live .press) (p .body .live .release)
+        → ReportsBy mask number down reply written reply′ → r ≡ acceptedEvent (withBody p b) written → Presses p number down reply r reply′
     unfolding composedLength composed
-    key-reported e written reply′ w =
-        let t = fitting reply (reportCode down number ∷ []) (eqb-true _ _ (passed .1 .0)) (omega arith) in
-        (w .0 ∙ when-true _ _ _ t, w .1 ∙ when-true _ _ _ t ∙ sym (accepted-by _ passed _ _ ∙ when-true _ _ _ e))
+    key-accepted keys b mask written reply′ r ek eb eo w er =
+        let em : mask ≡ maskFor down (p .body .live) = eo ∙ mask-is (p .body .live) down in
+        let n : written ≡ (when reports p number down then 5 else 0) =
+        w .0 ∙ (λ i. when isOn (em i) number then when-true _ (length (reportCode down number ∷ []) + 4) 0 composes i else 0) in
+        let o : reply′ ≡ (when reports p number down then front (reportBytes down number) reply else reply) =
+        w .1 ∙ (λ i. when isOn (em i) number then when-true _ (front (reportBytes down number) reply) reply composes i else reply) in
+        let c : b ≡ withKeys (p .body) (keyEvent down number (p .body .keys)) = eb ∙ ap (withKeys (p .body)) ek in
+        (er ∙ (λ i. acceptedEvent (withBody p (c i)) (n i)) ∙ sym (accepted-by _ passed _ _), o ∙ sym (accepted-by _ passed _ _))
 
     pub accepted-in-range : inRanges (keyAccepted p number down .panel) ≡ true
     accepted-in-range =

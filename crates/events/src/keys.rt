@@ -1,13 +1,16 @@
 // Key events.
 ghost use mathlib.Core.Path.{_≡_};
 ghost use Prim.Native.Nat.{_^_, _≤_};
-ghost use Rattle.events.specs.Keys.{isOn, withBit, withoutBit, keyEvent, maskFor, reportCode, Presses};
+ghost use Rattle.answers.specs.Answer.{decided};
+ghost use Rattle.answers.specs.declared.Answer.the-variants.{KeyAsTold};
+ghost use Rattle.carry.specs.Carry.{withKeys};
+ghost use Rattle.events.specs.Keys.{isOn, withBit, withoutBit, keyEvent, maskOf, reportCode, moving, earlyChecks, ReportsBy, Presses};
 use answers::Answer;
 use answers::Said;
 use answers::refused_call;
+use panel::state::Body;
 use panel::state::Keys;
 use panel::state::Panel;
-use panel::state::Settings;
 
 fn bit(number: u8) -> u8
     requires { ⌜ number ≤ 5 ⌝ }
@@ -61,10 +64,11 @@ fn after_event(k: Keys, number: u8, down: bool) -> Keys
     }
 }
 
-fn mask_for(s: Settings, down: bool) -> u8
-    ensures { λ r. ⌜ r ≡ maskFor down s ⌝ }
+// The mask that says whether an event is reported.
+fn mask_for(press: u8, release: u8, down: bool) -> u8
+    ensures { λ r. ⌜ r ≡ maskOf down press release ⌝ }
 {
-    if down { s.press } else { s.release }
+    if down { press } else { release }
 }
 
 // The byte that reports an event, by key number: up 1, enter 5, cancel 6, left 3, right 4, down 2 for a press, plus 6 for a
@@ -76,40 +80,65 @@ fn report_code(number: u8, down: bool) -> u8
     if down { pressed } else { pressed + 6 }
 }
 
+// Whether a key call passes its checks: the key told to go down is up, or the other way round.
+fn moves(in_ranges: bool, size: usize, number: u8, mask: u8, down: bool) -> bool
+    ensures { λ r. ⌜ r ≡ moving «in_ranges» size number mask down ⌝ }
+{
+    if !(in_ranges & (size == 26) & (number <= 5)) {
+        return false;
+    }
+    is_on(mask, number) != down
+}
+
+// What a key call answers that does not pass its checks: the first of them that fails.
+fn refusal(in_ranges: bool, size: usize, number: u8) -> Answer
+    ensures { λ r. ⌜ r ≡ decided (earlyChecks «in_ranges» size number) (λ a. a) KeyAsTold ⌝ }
+{
+    if !in_ranges {
+        return Answer::StateOutOfRange;
+    }
+    if size != 26 {
+        return Answer::ReplySize;
+    }
+    if 5 < number {
+        return Answer::KeyOrPinNumber;
+    }
+    Answer::KeyAsTold
+}
+
+// The report of an event, if the mask asks for one, in the front of the reply buffer.
+fn report(mask: u8, number: u8, down: bool, reply: &mut [u8]) -> usize
+    requires { ⌜ number ≤ 5 ⌝ }
+    ensures { λ r. ⌜ ReportsBy mask number down (now (reply .entry)) r (now (reply .exit)) ⌝ }
+{
+    if !is_on(mask, number) {
+        return 0;
+    }
+    packets::packet::compose(reply, 128, &[report_code(number, down)])
+}
+
+fn with_keys(mut b: Body, keys: Keys) -> Body
+    ensures { λ r. ⌜ r ≡ withKeys b keys ⌝ }
+{
+    b.keys = keys;
+    b
+}
+
 // A key goes down or up. Its report, if the mask asks for one, is written into the front of the reply buffer.
 pub fn key(p: Panel, number: u8, down: bool, reply: &mut [u8]) -> Said
     ensures { λ r. ⌜ Presses p number down (now (reply .entry)) r (now (reply .exit)) ⌝ }
 {
-    if !panel::ranges::in_ranges(p) {
-        return refused_call(p, Answer::StateOutOfRange);
+    let in_ranges = panel::ranges::in_ranges(p);
+    let size = reply.len();
+    if !moves(in_ranges, size, number, p.body.keys.down, down) {
+        return refused_call(p, refusal(in_ranges, size, number));
     }
-    if reply.len() != 26 {
-        return refused_call(p, Answer::ReplySize);
-    }
-    if 5 < number {
-        return refused_call(p, Answer::KeyOrPinNumber);
-    }
-    let mut b = p.body;
-    let k = b.keys;
-    if is_on(k.down, number) == down {
-        return refused_call(p, Answer::KeyAsTold);
-    }
-    let live = b.live;
-    let keys = after_event(k, number, down);
-    b.keys = keys;
-    let mut q = p;
-    q.body = b;
-    let mut written = 0;
-    if is_on(mask_for(live, down), number) {
-        written = packets::packet::compose(reply, 128, &[report_code(number, down)]);
-    }
-    Said {
-        panel: q,
-        answer: Answer::Done(0),
-        taken: 0,
-        dropped: 0,
-        checked: 0,
-        reply: written,
-        listed: 0,
-    }
+    let keys = after_event(p.body.keys, number, down);
+    let written = report(
+        mask_for(p.body.live.press, p.body.live.release, down),
+        number,
+        down,
+        reply,
+    );
+    crate::accepted::accepted(p, with_keys(p.body, keys), written)
 }

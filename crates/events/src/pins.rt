@@ -1,30 +1,38 @@
 // Pin events.
 ghost use mathlib.Core.Path.{_≡_};
 ghost use Prim.Native.Nat.{_<_};
+ghost use Rattle.carry.specs.Carry.{withPins};
 ghost use Rattle.events.specs.Pins.{pinEvent, Moves};
 use answers::Answer;
 use answers::Said;
 use answers::refused_call;
+use panel::state::Body;
 use panel::state::Panel;
 use panel::state::Pins;
 
 // The level, and the edge if it changed.
-fn after_event(p: Pins, number: u8, high: bool) -> Pins
+fn after_event(mut p: Pins, number: u8, high: bool) -> Pins
     requires { ⌜ number < 5 ⌝ }
     ensures { λ r. ⌜ r ≡ pinEvent high number p ⌝ }
 {
     let i = number as usize;
-    let mut r = p;
     if p.last[i] == high {
-        return r;
+        return p;
     }
-    r.last[i] = high;
+    p.last[i] = high;
     if high {
-        r.rose[i] = true;
+        p.rose[i] = true;
     } else {
-        r.fell[i] = true;
+        p.fell[i] = true;
     }
-    r
+    p
+}
+
+fn with_pins(mut b: Body, pins: Pins) -> Body
+    ensures { λ r. ⌜ r ≡ withPins b pins ⌝ }
+{
+    b.pins = pins;
+    b
 }
 
 // A pin's level as it is now.
@@ -37,18 +45,6 @@ pub fn pin(p: Panel, number: u8, high: bool) -> Said
     if 4 < number {
         return refused_call(p, Answer::KeyOrPinNumber);
     }
-    let mut b = p.body;
-    let pins = after_event(b.pins, number, high);
-    b.pins = pins;
-    let mut q = p;
-    q.body = b;
-    Said {
-        panel: q,
-        answer: Answer::Done(0),
-        taken: 0,
-        dropped: 0,
-        checked: 0,
-        reply: 0,
-        listed: 0,
-    }
+    let pins = after_event(p.body.pins, number, high);
+    crate::accepted::accepted(p, with_pins(p.body, pins), 0)
 }

@@ -22,14 +22,14 @@ returns c =
     let a = c .before .before .args in
     rw (same (getD (a .t1 .last) (a .number) false) (a .high) (c .if1 .taken)) (unchanged (a .high) (a .number) (a .t1))
 
-element-write-r : tie.Need-element-write-r
-element-write-r c = search needs
+element-write-p : tie.Need-element-write-p
+element-write-p c = search needs
 
-element-write-r-2 : tie.Need-element-write-r-2
-element-write-r-2 c = search needs
+element-write-p-2 : tie.Need-element-write-p-2
+element-write-p-2 c = search needs
 
-element-write-r-3 : tie.Need-element-write-r-3
-element-write-r-3 c = search needs
+element-write-p-3 : tie.Need-element-write-p-3
+element-write-p-3 c = search needs
 
 returns-2 : tie.Need-returns-2
 unfolding pinMoved
@@ -49,8 +49,8 @@ after-event-spec =
     (tie.spec
     element-copy-out-if1
     returns
-    element-write-r
-    element-write-r-2
-    element-write-r-3
+    element-write-p
+    element-write-p-2
+    element-write-p-3
     returns-2
     returns-3)
