@@ -1,0 +1,23 @@
+use borrow.Author.Needs.{needs}
+use Rattle.layout.proofs.words.word_bytes.Statement.{statement}
+use Rattle.layout.proofs.words.word_bytes.Tie as tie
+use Rattle.layout.proofs.words.word_bytes.Reads as reads
+use Rattle.layout.proofs.words.word_bytes.Lts as lts
+
+cast-t3 : tie.Need-cast-t3
+cast-t3 c = search needs
+
+cast-t6 : tie.Need-cast-t6
+cast-t6 c = search needs
+
+cast-t9 : tie.Need-cast-t9
+cast-t9 c = search needs
+
+cast-t12 : tie.Need-cast-t12
+cast-t12 c = search needs
+
+returns : tie.Need-returns
+returns c = search needs
+
+pub word-bytes-spec : {M : Type 1} → statement M
+word-bytes-spec = tie.close (tie.spec cast-t3 cast-t6 cast-t9 cast-t12 returns)
