@@ -31,7 +31,7 @@ module _ (out content : List ℕ) where
     composes-nothing e = (sym (when-false _ _ _ e), sym (when-false _ _ _ e))
 
     -- the two stores, the run, the checksum of what stands there so far, the two last stores: the packet at the front
-    pub written : (sum : ℕ) (out′ : List ℕ) → length content + 4 ≤ length out
+    written : (sum : ℕ) (out′ : List ℕ) → length content + 4 ≤ length out
         → out′ ≡ pasted (set (set out 0 kind) 1 (length content)) 2 content → sum ≡ checksum (take (length content + 2) out′)
         → set (set out′ (length content + 2) (sum % 256)) (length content + 3) (sum / 256) ≡ front (packetBytes kind content) out
     written sum out′ room e f =
@@ -47,10 +47,15 @@ module _ (out content : List ℕ) where
         (front-more (h ++ x ∷ []) out (n + 3) (checksum h / 256) (omega (arith, length-append h (x ∷ []))) (omega arith)
         ∙ ap (λ (p : List ℕ). front p out) (append-assoc h (x ∷ []) (checksum h / 256 ∷ [])))
 
-    pub composes : (out′ : List ℕ) → length out ≡ 26 → length content ≤ 22 → out′ ≡ front (packetBytes kind content) out
+    composes : (out′ : List ℕ) → length out ≡ 26 → length content ≤ 22 → out′ ≡ front (packetBytes kind content) out
         → Composes out kind content (length content + 4) out′
     unfolding composedLength composed
     composes out′ h l e = let t = fitting h l in (sym (when-true _ _ _ t), e ∙ sym (when-true _ _ _ t))
+
+    pub composes-all : (sum : ℕ) (out′ : List ℕ) → length out ≡ 26 → length content ≤ 22
+        → out′ ≡ pasted (set (set out 0 kind) 1 (length content)) 2 content → sum ≡ checksum (take (length content + 2) out′)
+        → Composes out kind content (length content + 4) (set (set out′ (length content + 2) (sum % 256)) (length content + 3) (sum / 256))
+    composes-all sum out′ h l e f = composes _ h l (written sum out′ (omega arith) e f)
 
 -- the bytes of a packet are judged a packet
 module _ (kind : ℕ) (content : List ℕ) (l : length content ≤ 22) where

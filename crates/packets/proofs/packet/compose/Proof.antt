@@ -1,5 +1,6 @@
-use lib.ListN.{length-set, length-take}
-use Rattle.packets.proofs.Composing.{wrong-buffer, too-long, composes-nothing, composes, written}
+use mathlib.Core.Path.{_≡_, _∙_}
+use lib.ListN.{length, set, length-set, length-take}
+use Rattle.packets.proofs.Composing.{wrong-buffer, too-long, composes-nothing, composes-all}
 use native.Mathlib.Omega.{arith}
 use borrow.Author.Needs.{needs}
 use Rattle.packets.proofs.packet.compose.Statement.{statement}
@@ -9,6 +10,12 @@ use Rattle.packets.proofs.packet.compose.Lts as lts
 use Rattle.packets.proofs.fcs.checksum.Reads as checksum-reads
 use Rattle.lists.proofs.paste.Reads as paste-reads
 
+-- the paste leaves the buffer's size
+still : (c : tie.After-paste) → length (c .paste .last .0) ≡ length (c .before .before .before .before .before .before .args .out .now)
+still c =
+    let a = c .before .before .before .before .before .before .args in
+    c .paste .kept .0 ∙ length-set (set (a .out .now) 0 (a .kind)) 1 (length (a .content .now)) ∙ length-set (a .out .now) 0 (a .kind)
+
 returns : tie.Need-returns
 returns c =
     let a = c .before .before .before .args in
@@ -17,7 +24,7 @@ returns c =
 returns-2 : tie.Need-returns-2
 returns-2 c =
     let a = c .before .before .before .before .args in
-    composes-nothing (a .out .now) (a .content .now) (a .kind) (too-long (a .out .now) (a .content .now) (omega arith))
+    composes-nothing (a .out .now) (a .content .now) (a .kind) (too-long (a .out .now) (a .content .now) (c .if2 .taken))
 
 slice-write-out : tie.Need-slice-write-out
 slice-write-out c = search needs
@@ -35,10 +42,10 @@ add-checksum : tie.Need-add-checksum
 add-checksum c = search needs
 
 slice-reshare-prefix-checksum : tie.Need-slice-reshare-prefix-checksum
-slice-reshare-prefix-checksum c = omega (arith, simp length-set at (c .before .before .paste .kept .0))
+slice-reshare-prefix-checksum c = omega (arith, still (c .before .before))
 
 slice-aggregate-checksum : tie.Need-slice-aggregate-checksum
-slice-aggregate-checksum c = simp length-take (omega (arith, simp length-set at (c .before .before .before .paste .kept .0)))
+slice-aggregate-checksum c = simp length-take (omega (arith, still (c .before .before .before)))
 
 checksum-requires : tie.Need-checksum-requires
 checksum-requires c κs = search needs
@@ -50,7 +57,7 @@ add-out : tie.Need-add-out
 add-out c = search needs
 
 slice-write-out-3 : tie.Need-slice-write-out-3
-slice-write-out-3 c = omega (arith, simp length-set at (c .before .before .before .before .paste .kept .0))
+slice-write-out-3 c = omega (arith, still (c .before .before .before .before))
 
 cast-out-3 : tie.Need-cast-out-3
 cast-out-3 c = search needs
@@ -59,20 +66,19 @@ add-out-2 : tie.Need-add-out-2
 add-out-2 c = search needs
 
 slice-write-out-4 : tie.Need-slice-write-out-4
-slice-write-out-4 c = simp length-set (omega (arith, simp length-set at (c .before .before .before .before .paste .kept .0)))
+slice-write-out-4 c = simp length-set (omega (arith, still (c .before .before .before .before)))
 
 add-result : tie.Need-add-result
 add-result c = search needs
 
 same-length : tie.Need-same-length
-same-length c = simp length-set (simp length-set at (c .before .before .before .before .paste .kept .0))
+same-length c = simp length-set (still (c .before .before .before .before))
 
 returns-3 : tie.Need-returns-3
 returns-3 c =
     let p = c .before .before .before .before in
     let a = p .before .before .before .before .before .before .args in
-    composes (a .out .now) (a .content .now) (a .kind) _ (omega arith) (omega arith)
-    (written (a .out .now) (a .content .now) (a .kind) (c .checksum .result) (p .paste .last .0) (omega arith) (p .paste .ensures) (c .checksum .ensures))
+    composes-all (a .out .now) (a .content .now) (a .kind) (c .checksum .result) (p .paste .last .0) (p .before .before .before .if1 .left) (p .before .before .if2 .left) (p .paste .ensures) (c .checksum .ensures)
 
 pub compose-spec : {M : Type 1} → statement M
 compose-spec =
