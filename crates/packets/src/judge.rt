@@ -13,11 +13,11 @@ pub enum Judgement {
     Packet,
 }
 
-fn checksum_right(held: &[u8]) -> bool
-    requires { ⌜ (lengthByte (now held) ≤ 22) × (lengthByte (now held) + 4 ≤ length (now held)) ⌝ }
+// Whether the checksum behind the n data bytes is right.
+fn checksum_right(held: &[u8], n: usize) -> bool
+    requires { ⌜ (n ≡ lengthByte (now held)) × (n ≤ 22) × (n + 4 ≤ length (now held)) ⌝ }
     ensures { λ r. ⌜ r ≡ checksumRight (now (held .entry)) ⌝ }
 {
-    let n = lists::wide(held[1]);
     let end = n + 2;
     let sum = crate::fcs::checksum(&held[..end]) as usize;
     let low = lists::wide(held[n + 2]);
@@ -38,7 +38,7 @@ pub fn judge(held: &[u8]) -> Judgement
     if held.len() < n + 4 {
         return Judgement::Wait;
     }
-    if checksum_right(held) {
+    if checksum_right(held, n) {
         return Judgement::Packet;
     }
     Judgement::WrongChecksum

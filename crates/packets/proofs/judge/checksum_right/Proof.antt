@@ -9,12 +9,6 @@ use Rattle.packets.proofs.judge.checksum_right.Lts as lts
 use Rattle.packets.proofs.fcs.checksum.Reads as checksum-reads
 use Rattle.lists.proofs.wide.Reads as wide-reads
 
-shared-slice-read-wide : tie.Need-shared-slice-read-wide
-shared-slice-read-wide c = search needs
-
-wide-requires : tie.Need-wide-requires
-wide-requires c κs = search needs
-
 add-end : tie.Need-add-end
 add-end c = search needs
 
@@ -30,20 +24,20 @@ cast-sum c = search needs
 add-wide : tie.Need-add-wide
 add-wide c = search needs
 
+shared-slice-read-wide : tie.Need-shared-slice-read-wide
+shared-slice-read-wide c = search needs
+
+wide-requires : tie.Need-wide-requires
+wide-requires c κs = search needs
+
+add-wide-2 : tie.Need-add-wide-2
+add-wide-2 c = search needs
+
 shared-slice-read-wide-2 : tie.Need-shared-slice-read-wide-2
 shared-slice-read-wide-2 c = search needs
 
 wide-requires-2 : tie.Need-wide-requires-2
 wide-requires-2 c κs = search needs
-
-add-wide-2 : tie.Need-add-wide-2
-add-wide-2 c = search needs
-
-shared-slice-read-wide-3 : tie.Need-shared-slice-read-wide-3
-shared-slice-read-wide-3 c = search needs
-
-wide-requires-3 : tie.Need-wide-requires-3
-wide-requires-3 c κs = search needs
 
 mul-result : tie.Need-mul-result
 mul-result c = search needs
@@ -53,25 +47,23 @@ add-result c = search needs
 
 returns : tie.Need-returns
 returns c =
-    let w = c .before .before .before .before .before .before .wide in
-    right-by (c .before .before .before .before .before .before .before .before .before .args .held .now) (w .result) (w .ensures .0) (c .before .before .before .before .checksum .result) (c .before .before .wide2 .result) (c .wide3 .result) (c .before .before .before .before .checksum .ensures) (c .before .before .wide2 .ensures .0) (c .wide3 .ensures .0)
+    let s = c .before .before .before .before .before .before .before in
+    right-by (s .args .held .now) (s .args .n) (s .pre .0) (c .before .before .before .before .checksum .result) (c .before .before .wide .result) (c .wide2 .result) (c .before .before .before .before .checksum .ensures) (c .before .before .wide .ensures .0) (c .wide2 .ensures .0)
 
 pub checksum-right-spec : {M : Type 1} → statement M
 checksum-right-spec =
     tie.close
     (tie.spec
-    shared-slice-read-wide
-    wide-requires
     add-end
     slice-aggregate-checksum
     checksum-requires
     cast-sum
     add-wide
+    shared-slice-read-wide
+    wide-requires
+    add-wide-2
     shared-slice-read-wide-2
     wide-requires-2
-    add-wide-2
-    shared-slice-read-wide-3
-    wide-requires-3
     mul-result
     add-result
     returns)
