@@ -5,18 +5,14 @@ use Rattle.lists.specs.Promise.{Determined}
 use Rattle.lists.proofs.Theorems.{one, and}
 use Rattle.packets.specs.declared.packet.Packet.{Packet}
 use Rattle.framing.specs.declared.scan.Scanned.{Scanned}
-use Rattle.panel.specs.declared.state.Body.{Body}
 use Rattle.panel.specs.declared.state.Panel.{Panel}
 use Rattle.answers.specs.declared.Answer.{Answer}
 use Rattle.answers.specs.declared.Said.{Said}
-use Rattle.command.specs.Step.{Steps, AnswersTo}
+use Rattle.command.specs.Step.{AnswersTo}
 use Rattle.command.specs.Hear.{Hears, Replies, RepliesRefused}
 
 pub answer-to-determined : (p : Packet) → Determined (AnswersTo p)
 answer-to-determined p = one _
-
-pub step-determined : (b : Body) (p : Packet) → Determined (Steps b p)
-step-determined b p = one _
 
 pub hear-determined : (p : Panel) (s : Scanned) (reply : List ℕ) → Determined (λ (x : Said × List ℕ). Hears p s reply (x .0) (x .1))
 hear-determined p s reply = and (one _) (one _)

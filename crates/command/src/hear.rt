@@ -1,51 +1,88 @@
 // What a scan of the line found, heard: the packet, if any, carried out or refused, and its reply written.
 ghost use mathlib.Core.Path.{_≡_};
-ghost use Rattle.command.specs.Hear.{writtenLength, written, Hears, Replies, RepliesRefused};
+ghost use mathlib.Core.List.{[]};
+ghost use Rattle.packets.specs.Packet.{packetOf};
+ghost use Rattle.command.specs.Step.{Steps};
+ghost use Rattle.command.specs.Hear.{saidOf, writtenLength, written, Hears, Replies, RepliesRefused};
+use crate::step::Stepped;
 use answers::Answer;
 use answers::Said;
 use framing::scan::Scanned;
 use packets::packet::Packet;
+use panel::state::Body;
 use panel::state::Panel;
 
 // The unfiled number is left as it is: what a refusal does to it is the register's to say.
 pub fn hear(p: Panel, s: Scanned, reply: &mut [u8]) -> Said
     ensures { λ r. ⌜ Hears p s (now (reply .entry)) r (now (reply .exit)) ⌝ }
 {
-    let hold = s.hold;
     if !s.found {
-        let body = p.body;
-        let panel = Panel {
-            hold,
-            body,
-            unfiled: p.unfiled,
-        };
-        return Said {
-            panel,
-            answer: Answer::Waiting,
-            taken: s.taken,
-            dropped: s.dropped,
-            checked: s.checked,
-            reply: 0,
-            listed: 0,
-        };
+        return said(p, s, p.body, Answer::Waiting, 0);
     }
-    let t = crate::step::step(p.body, s.packet);
+    let t = step(p.body, s.packet);
     let written = write(t.replies, t.reply, reply);
-    let body = t.body;
-    let panel = Panel {
-        hold,
-        body,
-        unfiled: p.unfiled,
-    };
     let answer = t.answer;
+    said(p, s, t.body, answer, written)
+}
+
+// What a call on the line says: the bytes held after the scan, the body, the answer and the reply's length.
+fn said(mut p: Panel, s: Scanned, body: Body, answer: Answer, reply: usize) -> Said
+    ensures { λ r. ⌜ r ≡ saidOf p s body answer reply ⌝ }
+{
+    let hold = s.hold;
+    p.hold = hold;
+    p.body = body;
     Said {
-        panel,
+        panel: p,
         answer,
         taken: s.taken,
         dropped: s.dropped,
         checked: s.checked,
-        reply: written,
+        reply,
         listed: 0,
+    }
+}
+
+// What a packet does: a command is carried out only where the answer is done.
+fn step(b: Body, p: Packet) -> Stepped
+    ensures { λ r. ⌜ Steps b p r ⌝ }
+{
+    let answer = crate::step::answer_to(p);
+    match answer {
+        Answer::Done(_) => {
+            let c = carry::carry::carry_out(b, p);
+            let body = c.body;
+            let reply = c.reply;
+            Stepped {
+                body,
+                answer,
+                replies: true,
+                reply,
+            }
+        }
+        Answer::Refused(code, _, _) => Stepped {
+            body: b,
+            answer,
+            replies: true,
+            reply: bare(192 + code),
+        },
+        _ => Stepped {
+            body: b,
+            answer,
+            replies: false,
+            reply: bare(0),
+        },
+    }
+}
+
+// A packet without data.
+fn bare(kind: u8) -> Packet
+    ensures { λ r. ⌜ r ≡ packetOf kind [] ⌝ }
+{
+    Packet {
+        kind,
+        length: 0,
+        content: [0u8; 22],
     }
 }
 

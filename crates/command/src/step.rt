@@ -1,8 +1,6 @@
 // A packet from the line: a stray, a done command or a refusal.
 ghost use mathlib.Core.Path.{_≡_};
-ghost use mathlib.Core.List.{[]};
-ghost use Rattle.packets.specs.Packet.{packetOf};
-ghost use Rattle.command.specs.Step.{Steps, AnswersTo};
+ghost use Rattle.command.specs.Step.{AnswersTo};
 use answers::Answer;
 use packets::packet::Packet;
 use panel::state::Body;
@@ -29,48 +27,5 @@ pub fn answer_to(p: Packet) -> Answer
     match verdict::verdict::verdict_on(code, &bytes[..n]) {
         Verdict::Allowed => Answer::Done(code),
         Verdict::Refused(reason, place) => Answer::Refused(code, reason, place),
-    }
-}
-
-// What a packet does: a command is carried out only where the answer is done.
-pub fn step(b: Body, p: Packet) -> Stepped
-    ensures { λ r. ⌜ Steps b p r ⌝ }
-{
-    let answer = answer_to(p);
-    match answer {
-        Answer::Done(_) => {
-            let c = carry::carry::carry_out(b, p);
-            let body = c.body;
-            let reply = c.reply;
-            Stepped {
-                body,
-                answer,
-                replies: true,
-                reply,
-            }
-        }
-        Answer::Refused(code, _, _) => Stepped {
-            body: b,
-            answer,
-            replies: true,
-            reply: bare(192 + code),
-        },
-        _ => Stepped {
-            body: b,
-            answer,
-            replies: false,
-            reply: bare(0),
-        },
-    }
-}
-
-// A packet without data.
-fn bare(kind: u8) -> Packet
-    ensures { λ r. ⌜ r ≡ packetOf kind [] ⌝ }
-{
-    Packet {
-        kind,
-        length: 0,
-        content: [0u8; 22],
     }
 }

@@ -2,13 +2,8 @@ use mathlib.Core.Path.{sym, _∙_}
 use native.Mathlib.Omega.{arith}
 use borrow.Author.Needs.{needs}
 use Rattle.command.proofs.Parts.{step-done, step-refused, step-else}
-use Rattle.command.proofs.step.step.Statement.{statement}
-use Rattle.command.proofs.step.step.Tie as tie
-use Rattle.command.proofs.step.step.Reads as reads
-use Rattle.command.proofs.step.step.Lts as lts
-use Rattle.carry.proofs.carry.carry_out.Reads as carry-out-reads
-use Rattle.command.proofs.step.answer_to.Reads as answer-to-reads
-use Rattle.command.proofs.step.bare.Reads as bare-reads
+use Rattle.command.proofs.hear.step.Statement.{statement}
+use Rattle.command.proofs.hear.step.Tie as tie
 
 answer-to-requires : tie.Need-answer-to-requires
 answer-to-requires c κs = search needs
