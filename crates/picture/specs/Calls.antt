@@ -17,7 +17,7 @@ use Rattle.answers.specs.Answer.{Check, check, decided, refusedCall}
 use Rattle.command.specs.Hear.{scannedBy, heardBy, replyBy}
 use Rattle.picture.specs.declared.calls.Checked.{Checked}
 use Rattle.paint.specs.Draw.{Shown, shownBy, drawn}
-use Rattle.paint.specs.Repaint.{changed, painted}
+use Rattle.paint.specs.Repaint.{changed, painted, RepaintsSized}
 
 abbrev pub sized : List ℕ → ℕ → Answer → Check
 sized buffer size answer = check (length buffer =? size) answer
@@ -103,10 +103,9 @@ onlyPainting picture list = sized picture 640 PictureSize ∷ sized list 80 List
 -- what `carried_on` promises of its result and of the three lent buffers
 abbrev pub CarriesOn : Panel → Scanned → List ℕ → List ℕ → List ℕ → List ℕ → Said → List ℕ → List ℕ → List ℕ → Type 0
 CarriesOn p s picture font list reply r picture′ list′ reply′ =
-    (r ≡ decided (onlyPainting picture list) (refusedCall p) (withListed (heardBy p s reply) (length (alteredBy p s font reply))))
-    × (picture′ ≡ decided (onlyPainting picture list) (λ a. picture) (painted (shownBefore p) (shownThen p s reply) font picture))
-    × (list′ ≡ decided (onlyPainting picture list) (λ a. list) (front (alteredBy p s font reply) list))
-    × (reply′ ≡ decided (onlyPainting picture list) (λ a. reply) (replyBy p s reply))
+    (r ≡ withListed (heardBy p s reply) (r .listed))
+    × RepaintsSized (shownBefore p) (shownThen p s reply) font picture list (r .listed) picture′ list′
+    × (reply′ ≡ replyBy p s reply)
 
 -- the call once accepted, but for the list: what the panel hears of the piece
 abbrev pub heard : Panel → Lent → Said

@@ -1,6 +1,8 @@
 // The calls of the whole panel: power-on and the line call.
 ghost use mathlib.Core.Path.{_≡_};
-ghost use Rattle.picture.specs.Calls.{acceptedCall, PowersOn, turnedAway, ChecksLine, CarriesOn, lent, Lines};
+ghost use Rattle.answers.specs.Answer.{decided};
+ghost use Rattle.answers.specs.declared.Answer.the-variants.{Waiting};
+ghost use Rattle.picture.specs.Calls.{acceptedCall, PowersOn, checksOf, ChecksLine, CarriesOn, lent, Lines};
 use answers::Answer;
 use answers::Said;
 use answers::refused_call;
@@ -18,8 +20,7 @@ pub fn power_on(picture: &mut [u8], font: &[u8]) -> Said
     if font.len() != 2048 {
         return refused_call(p, Answer::FontSize);
     }
-    let live = p.body.live;
-    paint::repaint::draw_all(picture, live, font);
+    paint::repaint::draw_all(picture, p.body.live, font);
     accepted(p)
 }
 
@@ -44,16 +45,43 @@ pub struct Checked {
     pub answer: Answer,
 }
 
-fn turned_away(answer: Answer) -> Checked
-    ensures { λ r. ⌜ r ≡ turnedAway answer ⌝ }
+// The checks of a line call in the order of their numbers: what the first that fails answers.
+fn first_failing(
+    in_ranges: bool,
+    piece: usize,
+    picture: usize,
+    font: usize,
+    list: usize,
+    reply: usize,
+    records: usize,
+) -> Answer
+    ensures { λ r. ⌜ r ≡ decided (checksOf «in_ranges» piece picture font list reply records) (λ a. a) Waiting ⌝ }
 {
-    Checked {
-        passes: false,
-        answer,
+    if !in_ranges {
+        return Answer::StateOutOfRange;
     }
+    if 4096 < piece {
+        return Answer::PieceTooLong;
+    }
+    if picture != 640 {
+        return Answer::PictureSize;
+    }
+    if font != 2048 {
+        return Answer::FontSize;
+    }
+    if list != 80 {
+        return Answer::ListSize;
+    }
+    if reply != 26 {
+        return Answer::ReplySize;
+    }
+    if records != 64 {
+        return Answer::RegisterSize;
+    }
+    Answer::Waiting
 }
 
-// The checks of a line call in the order of their numbers: the state, and the sizes of what is lent.
+// The checks of a line call: the state, and the sizes of what is lent.
 pub fn line_checked(
     in_ranges: bool,
     piece: usize,
@@ -65,35 +93,18 @@ pub fn line_checked(
 ) -> Checked
     ensures { λ r. ⌜ ChecksLine «in_ranges» piece picture font list reply records r ⌝ }
 {
-    if !in_ranges {
-        return turned_away(Answer::StateOutOfRange);
-    }
-    if 4096 < piece {
-        return turned_away(Answer::PieceTooLong);
-    }
-    if picture != 640 {
-        return turned_away(Answer::PictureSize);
-    }
-    if font != 2048 {
-        return turned_away(Answer::FontSize);
-    }
-    if list != 80 {
-        return turned_away(Answer::ListSize);
-    }
-    if reply != 26 {
-        return turned_away(Answer::ReplySize);
-    }
-    if records != 64 {
-        return turned_away(Answer::RegisterSize);
-    }
-    Checked {
-        passes: true,
-        answer: Answer::Waiting,
-    }
+    let answer = first_failing(in_ranges, piece, picture, font, list, reply, records);
+    let passes = in_ranges
+        & (piece <= 4096)
+        & (picture == 640)
+        & (font == 2048)
+        & (list == 80)
+        & (reply == 26)
+        & (records == 64);
+    Checked { passes, answer }
 }
 
-// What a scan of the line found, heard, and the picture repainted. The picture and the list have to be of their sizes; the
-// other checks are the caller's.
+// What a scan of the line found, heard, and the picture repainted. The checks are the caller's.
 fn carried_on(
     p: Panel,
     s: Scanned,
@@ -104,17 +115,8 @@ fn carried_on(
 ) -> Said
     ensures { λ r. ⌜ CarriesOn p s (now (picture .entry)) (now (font .entry)) (now (list .entry)) (now (reply .entry)) r (now (picture .exit)) (now (list .exit)) (now (reply .exit)) ⌝ }
 {
-    if picture.len() != 640 {
-        return refused_call(p, Answer::PictureSize);
-    }
-    if list.len() != 80 {
-        return refused_call(p, Answer::ListSize);
-    }
     let mut h = command::hear::hear(p, s, reply);
-    let before = p.body.live;
-    let after = h.panel.body.live;
-    let listed = paint::repaint::repaint(picture, list, before, after, font);
-    h.listed = listed;
+    h.listed = paint::repaint::repaint(picture, list, p.body.live, h.panel.body.live, font);
     h
 }
 

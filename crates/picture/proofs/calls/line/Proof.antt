@@ -1,21 +1,9 @@
-use mathlib.Core.Path.{_≡_, _∙_, ap}
-use mathlib.Core.Bool.{Bool}
-use lib.ListN.{length}
 use borrow.Author.Tests.{not-true, not-false}
-use Rattle.framing.specs.declared.scan.Scanned.{Scanned}
-use Rattle.answers.specs.Answer.{decided}
-use Rattle.picture.specs.Calls.{Lent, lent, checksOf, lineChecks, turnedAway, letThrough, CarriesOn}
-use Rattle.picture.proofs.LineCalls.{line-accepted, turned-away-line, let-through-line}
+use Rattle.picture.specs.Calls.{lent}
+use Rattle.picture.proofs.LineCalls.{checked-of, turned-away-line, let-through-line, line-carried}
 use borrow.Author.Needs.{needs}
 use Rattle.picture.proofs.calls.line.Statement.{statement}
 use Rattle.picture.proofs.calls.line.Tie as tie
-use Rattle.picture.proofs.calls.line.Reads as reads
-use Rattle.picture.proofs.calls.line.Lts as lts
-use Rattle.answers.proofs.refused_call.Reads as refused-call-reads
-use Rattle.framing.proofs.scan.scan.Reads as scan-reads
-use Rattle.panel.proofs.ranges.in_ranges.Reads as in-ranges-reads
-use Rattle.picture.proofs.calls.carried_on.Reads as carried-on-reads
-use Rattle.picture.proofs.calls.line_checked.Reads as line-checked-reads
 
 in-ranges-requires : tie.Need-in-ranges-requires
 in-ranges-requires c κs = search needs
@@ -28,9 +16,11 @@ refused-call-requires c κs = search needs
 
 returns : tie.Need-returns
 returns c =
-    let a = c .before .before .before .before .before .before .before .before .before .before .args in
-    let k = c .before .before .before .line-checked in
-    turned-away-line (a .p) (lent (a .piece .now) (a .picture .now) (a .font .now) (a .list .now) (a .reply .now) (a .records)) (k .result) (k .ensures ∙ ap (λ (b : Bool). decided (checksOf b (length (a .piece .now)) (length (a .picture .now)) (length (a .font .now)) (length (a .list .now)) (length (a .reply .now)) (a .records)) turnedAway letThrough) (c .before .before .before .before .in-ranges .ensures)) (not-true _ (c .before .if1 .taken)) (c .refused-call .ensures)
+    let k = c .before .before .before in
+    let a = k .before .before .before .before .before .before .before .args in
+    let l = lent (a .piece .now) (a .picture .now) (a .font .now) (a .list .now) (a .reply .now) (a .records) in
+    let m = k .line-checked in
+    turned-away-line (a .p) l (m .result) (checked-of (a .p) l _ (m .result) (k .before .in-ranges .ensures) (m .ensures)) (not-true _ (c .before .if1 .taken)) (c .refused-call .ensures)
 
 scan-requires : tie.Need-scan-requires
 scan-requires c κs = search needs
@@ -49,10 +39,14 @@ same-length-3 c = search needs
 
 returns-2 : tie.Need-returns-2
 returns-2 c =
-    let a = c .before .before .before .before .before .before .before .before .before .before .before .before .before .before .before .before .before .before .before .before .args in
-    let k = c .before .before .before .before .before .before .before .before .before .before .before .before .before .line-checked in
-    let passed = let-through-line (a .p) (lent (a .piece .now) (a .picture .now) (a .font .now) (a .list .now) (a .reply .now) (a .records)) (k .result) (k .ensures ∙ ap (λ (b : Bool). decided (checksOf b (length (a .piece .now)) (length (a .picture .now)) (length (a .font .now)) (length (a .list .now)) (length (a .reply .now)) (a .records)) turnedAway letThrough) (c .before .before .before .before .before .before .before .before .before .before .before .before .before .before .in-ranges .ensures)) (not-false _ (c .before .before .before .before .before .before .before .before .before .before .before .if1 .left)) in
-    line-accepted (a .p) (lent (a .piece .now) (a .picture .now) (a .font .now) (a .list .now) (a .reply .now) (a .records)) _ _ _ _ passed (rw (← (c .before .before .before .before .before .before .before .before .before .before .scan .ensures)) (c .before .before .before .before .before .before .carried-on .ensures))
+    let o = c .before .before .before .before .before .before in
+    let g = o .before .before .before .before in
+    let k = g .before .before .before in
+    let a = k .before .before .before .before .before .before .before .args in
+    let l = lent (a .piece .now) (a .picture .now) (a .font .now) (a .list .now) (a .reply .now) (a .records) in
+    let m = k .line-checked in
+    let passed = let-through-line (a .p) l (m .result) (checked-of (a .p) l _ (m .result) (k .before .in-ranges .ensures) (m .ensures)) (not-false _ (g .before .if1 .left)) in
+    line-carried (a .p) l _ _ _ _ _ passed (g .scan .ensures) (o .carried-on .ensures)
 
 pub line-spec : {M : Type 1} → statement M
 line-spec =

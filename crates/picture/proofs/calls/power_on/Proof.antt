@@ -5,12 +5,6 @@ use Rattle.paint.proofs.Sizes.{sized-draws}
 use borrow.Author.Needs.{needs}
 use Rattle.picture.proofs.calls.power_on.Statement.{statement}
 use Rattle.picture.proofs.calls.power_on.Tie as tie
-use Rattle.picture.proofs.calls.power_on.Reads as reads
-use Rattle.picture.proofs.calls.power_on.Lts as lts
-use Rattle.answers.proofs.refused_call.Reads as refused-call-reads
-use Rattle.panel.proofs.state.powered_on.Reads as powered-on-reads
-use Rattle.picture.proofs.calls.accepted.Reads as accepted-reads
-use Rattle.paint.proofs.repaint.draw_all.Reads as draw-all-reads
 
 powered-on-requires : tie.Need-powered-on-requires
 powered-on-requires c κs = search needs
@@ -42,8 +36,12 @@ same-length c = search needs
 
 returns-3 : tie.Need-returns-3
 returns-3 c =
-    let a = c .before .before .before .before .before .before .before .before .before .before .before .args in
-    power-accepted (a .picture .now) (a .font .now) (eq-eqb _ _ (c .before .before .before .before .before .before .before .if1 .left), (eq-eqb _ _ (c .before .before .before .before .before .before .if2 .left), tt)) (c .before .before .before .before .before .before .before .before .powered-on .ensures) (c .accepted .ensures) (sized-draws _ _ (a .picture .now) _ (c .before .before .before .before .before .before .before .if1 .left) (c .before .before .before .draw-all .ensures))
+    let t = c .before .before .before .before .before in
+    let k = t .before in
+    let o = k .before in
+    let a = o .before .before .before .args in
+    power-accepted (a .picture .now) (a .font .now) (eq-eqb _ _ (k .if1 .left), (eq-eqb _ _ (t .if2 .left), tt)) (o .powered-on .ensures) (c .accepted .ensures)
+    (sized-draws _ _ (a .picture .now) _ (k .if1 .left) (c .before .before .before .draw-all .ensures))
 
 pub power-on-spec : {M : Type 1} → statement M
 power-on-spec =
