@@ -2,17 +2,22 @@
 use mathlib.Core.Path.{_≡_, refl, sym, _∙_, ap}
 use mathlib.Core.Bool.{Bool, true, false}
 use mathlib.Core.List.{List, [], _∷_, _++_}
-use Prim.Native.Nat.{ℕ, zero, suc, _+_, _<_, _≤_}
+use Prim.Native.Nat.{ℕ, zero, suc, _+_, _*_, _<_, _≤_}
 use native.Mathlib.Numerals.{add-one}
 use native.Mathlib.Omega.{arith}
-use lib.ListN.{length, set, length-set, length-append}
+use lib.ListN.{length, getD, set, length-set, length-append}
 use Rattle.lists.specs.Tests.{when_then_else_}
 use Rattle.lists.specs.Runs.{front}
 use Rattle.lists.proofs.Laws.{when-true, when-false, front-more}
-use Rattle.paint.specs.Draw.{Shown, shown, cellDrawn, put, paint}
+use Rattle.paint.specs.Draw.{Shown, shown, cellDrawn, placeOf, put, paint}
 use Rattle.paint.specs.Repaint.{alike, same, changedBelow, painted, RepaintsCell, Repaints}
 use Rattle.paint.proofs.Changes.{alike-self}
 use Rattle.paint.proofs.Paints.{length-put}
+
+-- one byte of a cell more, at the code's place
+pub put-turn : (cell k : ℕ) (bytes picture₀ picture : List ℕ) → picture ≡ put cell bytes picture₀ k → set picture (8 * cell + k) (getD bytes k 0) ≡ put cell bytes picture₀ (k + 1)
+unfolding put placeOf
+put-turn cell k bytes picture₀ picture e = rw add-one (ap (λ (l : List ℕ). set l (8 * cell + k) (getD bytes k 0)) e)
 
 module _ (keep : ℕ → Bool) (g : ℕ → List ℕ) (p : List ℕ) (n : ℕ) where
   pub paint-kept : keep n ≡ true → paint keep g p (n + 1) ≡ paint keep g p n

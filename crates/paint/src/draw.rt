@@ -2,15 +2,7 @@
 ghost use mathlib.Core.Path.{_≡_};
 ghost use Prim.Native.Nat.{_<_};
 ghost use lib.ListN.{length};
-ghost use Rattle.paint.specs.Draw.{placeOf, lowSix, codeDrawn, put};
-
-// Where byte k of a cell stands.
-fn place(cell: usize, k: usize) -> usize
-    requires { ⌜ (cell < 80) × (k < 8) ⌝ }
-    ensures { λ r. ⌜ (r ≡ placeOf cell k) × (r < 640) ⌝ }
-{
-    8 * cell + k
-}
+ghost use Rattle.paint.specs.Draw.{lowSix, codeDrawn, put};
 
 fn low_six(rows: [u8; 8]) -> [u8; 8]
     ensures { λ r. ⌜ r ≡ lowSix rows ⌝ }
@@ -42,7 +34,7 @@ pub fn put_cell(picture: &mut [u8], cell: usize, bytes: [u8; 8])
 {
     let mut k: usize = 0;
     while k < 8 {
-        let i = place(cell, k);
+        let i = 8 * cell + k;
         picture[i] = bytes[k];
         k += 1;
     }

@@ -1,15 +1,14 @@
-use Prim.Native.Nat.{ℕ, _≤_, _-_}
-use mathlib.Core.Path.{_≡_, refl}
-use native.Mathlib.Numerals.{add-one}
-use lib.ListN.{length, length-set}
+use Prim.Native.Nat.{ℕ, _+_, _*_, _≤_, _-_}
+use mathlib.Core.Path.{_≡_, refl, _∙_}
+use lib.ListN.{length, getD, length-set}
 use Rattle.paint.specs.Draw.{put}
+use Rattle.paint.proofs.Turns.{put-turn}
 use native.Mathlib.Omega.{arith}
 use borrow.Author.Needs.{needs}
 use Rattle.paint.proofs.draw.put_cell.Statement.{statement}
 use Rattle.paint.proofs.draw.put_cell.Tie as tie
 use Rattle.paint.proofs.draw.put_cell.Reads as reads
 use Rattle.paint.proofs.draw.put_cell.Lts as lts
-use Rattle.paint.proofs.draw.place.Reads as place-reads
 
 abbrev Inv-loop : tie.InvT-loop
 Inv-loop picture₀ cell bytes k₀ picture k = (k ≤ 8) × (picture ≡ put cell bytes picture₀ k) × (length picture ≡ length picture₀)
@@ -21,8 +20,11 @@ loop-holds : tie.Need-loop-holds Inv-loop μ-loop
 unfolding put
 loop-holds c = (search needs, refl, refl)
 
-place-requires : tie.Need-place-requires Inv-loop μ-loop
-place-requires c κs = search needs
+mul-i : tie.Need-mul-i Inv-loop μ-loop
+mul-i c = search needs
+
+add-i : tie.Need-add-i Inv-loop μ-loop
+add-i c = search needs
 
 array-read-picture : tie.Need-array-read-picture Inv-loop μ-loop
 array-read-picture c = search needs
@@ -37,8 +39,10 @@ loop-less : tie.Need-loop-less Inv-loop μ-loop
 loop-less c = search needs
 
 loop-again : tie.Need-loop-again Inv-loop μ-loop
-unfolding put
-loop-again c = (search needs, rw (add-one, ← c .before .before .loop .inv .1, ← c .place .ensures .0), simp length-set (c .before .before .loop .inv .2))
+loop-again c =
+    let a = c .before .before .args in
+    let l = c .before .loop in
+    (search needs, put-turn (a .cell) (l .k) (a .t3) (a .picture .now) (l .picture) (l .inv .1), length-set (l .picture) (8 * a .cell + l .k) (getD (a .t3) (l .k) 0) ∙ l .inv .2)
 
 same-length : tie.Need-same-length Inv-loop μ-loop
 same-length c = search needs
@@ -53,7 +57,8 @@ put-cell-spec =
     Inv-loop
     μ-loop
     loop-holds
-    place-requires
+    mul-i
+    add-i
     array-read-picture
     slice-write-picture
     add-k
