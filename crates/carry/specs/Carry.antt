@@ -125,6 +125,20 @@ effect code d b =
     else when code =? 35 then withPins b (pinRead (b .pins) d)
     else b
 
+-- the live settings after a command, by themselves
+unfoldable pub liveAfter : ℕ → List ℕ → Settings → Settings
+liveAfter code d s =
+    when code =? 6 then cleared s
+    else when code =? 9 then withGlyph s d
+    else when code =? 11 then withCursor s d
+    else when code =? 12 then withStyle s d
+    else when code =? 13 then withContrast s d
+    else when code =? 14 then withBacklight s d
+    else when code =? 23 then withMasks s d
+    else when code =? 31 then withText s d
+    else when code =? 34 then withPin s d
+    else s
+
 -- 1: CFA635:h1.1,s1.6
 abbrev pub version : List ℕ
 version = 67 ∷ 70 ∷ 65 ∷ 54 ∷ 51 ∷ 53 ∷ 58 ∷ 104 ∷ 49 ∷ 46 ∷ 49 ∷ 44 ∷ 115 ∷ 49 ∷ 46 ∷ 54 ∷ []

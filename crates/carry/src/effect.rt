@@ -2,7 +2,7 @@
 ghost use mathlib.Core.Path.{_≡_};
 ghost use mathlib.Core.Bool.{false};
 ghost use lib.ListN.{set};
-ghost use Rattle.carry.specs.Carry.{withLive, withKeys, withPins, stored, rebooted, withFlash, cleared, withGlyph, withCursor, withStyle, withContrast, withBacklight, withMasks, polled, withText, withPin, pinRead, effect};
+ghost use Rattle.carry.specs.Carry.{withLive, withKeys, withPins, stored, rebooted, withFlash, cleared, withGlyph, withCursor, withStyle, withContrast, withBacklight, withMasks, polled, withText, withPin, pinRead, effect, liveAfter};
 use panel::state::Body;
 use panel::state::Keys;
 use panel::state::Pins;
@@ -18,17 +18,16 @@ fn write_flash(b: Body, content: &[u8]) -> Body
     r
 }
 
-fn store(b: Body) -> Body
+fn store(mut b: Body) -> Body
     ensures { λ r. ⌜ r ≡ stored b ⌝ }
 {
     let live = b.live;
-    let mut r = b;
-    r.boot = live;
-    r
+    b.boot = live;
+    b
 }
 
 // A reboot by itself: more than command 5 may bring one about.
-fn reboot(b: Body) -> Body
+fn reboot(mut b: Body) -> Body
     ensures { λ r. ⌜ r ≡ rebooted b ⌝ }
 {
     let live = b.boot;
@@ -43,11 +42,10 @@ fn reboot(b: Body) -> Body
         pressed: 0,
         released: 0,
     };
-    let mut r = b;
-    r.live = live;
-    r.keys = keys;
-    r.pins = pins;
-    r
+    b.live = live;
+    b.keys = keys;
+    b.pins = pins;
+    b
 }
 
 fn clear(s: Settings) -> Settings
@@ -201,56 +199,55 @@ fn set_backlight(s: Settings, content: &[u8]) -> Settings
     r
 }
 
-fn with_live(b: Body, s: Settings) -> Body
+fn with_live(mut b: Body, s: Settings) -> Body
     ensures { λ r. ⌜ r ≡ withLive b s ⌝ }
 {
-    let mut r = b;
-    r.live = s;
-    r
+    b.live = s;
+    b
 }
 
-fn with_keys(b: Body, k: Keys) -> Body
+fn with_keys(mut b: Body, k: Keys) -> Body
     ensures { λ r. ⌜ r ≡ withKeys b k ⌝ }
 {
-    let mut r = b;
-    r.keys = k;
-    r
+    b.keys = k;
+    b
 }
 
-fn with_pins(b: Body, p: Pins) -> Body
+fn with_pins(mut b: Body, p: Pins) -> Body
     ensures { λ r. ⌜ r ≡ withPins b p ⌝ }
 {
-    let mut r = b;
-    r.pins = p;
-    r
+    b.pins = p;
+    b
+}
+
+// The live settings after a command; most commands change nothing else.
+fn live_after(live: Settings, code: u8, content: &[u8]) -> Settings
+    ensures { λ r. ⌜ r ≡ liveAfter code (now (content .entry)) live ⌝ }
+{
+    match code {
+        6 => clear(live),
+        9 => set_glyph(live, content),
+        11 => set_cursor(live, content),
+        12 => set_style(live, content),
+        13 => set_contrast(live, content),
+        14 => set_backlight(live, content),
+        23 => set_masks(live, content),
+        31 => write_text(live, content),
+        34 => set_pin(live, content),
+        _ => live,
+    }
 }
 
 // The body after a command.
 pub fn effect_of(b: Body, code: u8, content: &[u8]) -> Body
     ensures { λ r. ⌜ r ≡ effect code (now (content .entry)) b ⌝ }
 {
-    let live = b.live;
     match code {
         2 => write_flash(b, content),
         4 => store(b),
         5 => reboot(b),
-        6 => with_live(b, clear(live)),
-        9 => with_live(b, set_glyph(live, content)),
-        11 => with_live(b, set_cursor(live, content)),
-        12 => with_live(b, set_style(live, content)),
-        13 => with_live(b, set_contrast(live, content)),
-        14 => with_live(b, set_backlight(live, content)),
-        23 => with_live(b, set_masks(live, content)),
-        24 => {
-            let k = b.keys;
-            with_keys(b, poll(k))
-        }
-        31 => with_live(b, write_text(live, content)),
-        34 => with_live(b, set_pin(live, content)),
-        35 => {
-            let p = b.pins;
-            with_pins(b, read_pin(p, content))
-        }
-        _ => b,
+        24 => with_keys(b, poll(b.keys)),
+        35 => with_pins(b, read_pin(b.pins, content)),
+        _ => with_live(b, live_after(b.live, code, content)),
     }
 }
