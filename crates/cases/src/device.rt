@@ -1,21 +1,17 @@
 // Cases of the whole panel.
+use crate::words::COUNT;
+use crate::words::HEADING;
+use crate::words::HIGH;
+use crate::words::LEND;
+use crate::words::LINE;
+use crate::words::LOW;
+use crate::words::PRESS;
+use crate::words::RELEASE;
+use crate::words::SET;
+use crate::words::SIZES;
+use crate::words::UNFILED;
 use answers::Said;
-use filing::Record;
-use panel::state::Panel;
-
-// A panel with its picture and its register.
-pub struct Device {
-    pub panel: Panel,
-    pub picture: [u8; 640],
-    pub register: [Record; 64],
-}
-
-// A device after a line call, what the call took, and whether calls go on.
-struct Called {
-    device: Device,
-    taken: usize,
-    more: bool,
-}
+use whole::line::Called;
 
 // The program's font: the rows for code c all equal c mod 64.
 pub fn font() -> [u8; 2048] {
@@ -29,93 +25,102 @@ pub fn font() -> [u8; 2048] {
 }
 
 // A panel at power-on, over a picture of other bytes, and an empty register.
-pub fn powered_on(font: &[u8]) -> Device {
-    let mut screen = [170u8; 640];
-    let s = picture::calls::power_on(&mut screen, font);
-    let panel = s.panel;
-    let records = register::run::empty();
-    Device {
-        panel,
-        picture: screen,
-        register: records,
-    }
-}
-
-fn is_packet(number: u8) -> bool {
-    (2 <= number) & (number <= 4)
+pub fn powered_on(picture: &mut [u8], font: &[u8]) -> Called {
+    let said = picture::calls::power_on(picture, font);
+    let register = register::run::empty();
+    Called { said, register }
 }
 
 // One line call, and its line unless it waits.
-fn call(before: Device, piece: &[u8], font: &[u8]) -> Called {
-    let mut screen = before.picture;
+fn call(before: Called, piece: &[u8], picture: &mut [u8], font: &[u8]) -> Called {
     let mut list = [0u8; 80];
     let mut reply = [0u8; 26];
-    let panel = before.panel;
-    let records = before.register;
-    let w = whole::line::line_in(
-        panel,
-        piece,
-        &mut screen,
-        font,
-        &mut list,
-        &mut reply,
-        records,
-    );
-    let s = w.said;
-    let answer = s.answer;
-    let n = answers::told(answer);
-    if n.number != 1 {
-        crate::show::line(s, &reply, &list);
-    }
-    let after = s.panel;
-    let left = w.register;
-    let device = Device {
-        panel: after,
-        picture: screen,
-        register: left,
-    };
-    Called {
-        device,
-        taken: s.taken,
-        more: is_packet(n.number),
-    }
+    let panel = before.said.panel;
+    let register = before.register;
+    let c = whole::line::line_in(panel, piece, picture, font, &mut list, &mut reply, register);
+    crate::show::line(c.said, &reply, &list);
+    c
+}
+
+// Whether the answer is a packet's, so that calls go on.
+fn is_packet(c: Called) -> bool {
+    let n = crate::show::numbers(c.said);
+    (2 <= n.number) & (n.number <= 4)
 }
 
 // Calls until all is taken and the answer is waiting. A packet has at least four bytes and at most 25 are held before, so
 // there are no more calls than the loop allows; no call takes more than its piece.
-pub fn line(before: Device, bytes: &[u8], font: &[u8]) -> Device {
-    let mut d = before;
+fn calls(before: Called, bytes: &[u8], picture: &mut [u8], font: &[u8]) -> Called {
+    let mut c = before;
     let mut at: usize = 0;
     for _ in 0..bytes.len() / 4 + 8 {
-        let c = call(d, &bytes[at..], font);
-        d = c.device;
-        at += lists::at_most(c.taken, bytes.len() - at);
-        if !c.more {
-            return d;
+        c = call(c, &bytes[at..], picture, font);
+        at += lists::at_most(c.said.taken, bytes.len() - at);
+        if !is_packet(c) {
+            return c;
         }
     }
-    d
+    c
 }
 
-// The device with the panel as a call left it.
-pub fn with_panel(before: Device, said: Said) -> Device {
-    let mut d = before;
-    let panel = said.panel;
-    d.panel = panel;
-    d
+fn heard(line: &[u8], before: Called, picture: &mut [u8], font: &[u8]) -> Called {
+    let mut room = [0u8; 256];
+    let n = crate::text::bytes_of(line, &mut room);
+    calls(before, &room[0..n], picture, font)
 }
 
-pub fn key(name: &[u8], before: Device, number: u8, down: bool) -> Device {
-    let mut reply = [0u8; 26];
+// A key pressed or released; "lend" presses it with a reply buffer of the size that stands behind the key.
+fn key(word: usize, line: &[u8], before: Said) -> Said {
+    let mut reply = [0u8; 27];
     let panel = before.panel;
-    let s = events::keys::key(panel, number, down, &mut reply);
-    crate::show::key(name, s, &reply);
-    with_panel(before, s)
+    let size = crate::wrong::reply_size(word, line);
+    let down = word != RELEASE;
+    let s = events::keys::key(panel, crate::text::small(line), down, &mut reply[0..size]);
+    if word == LEND {
+        crate::show::call(s);
+    } else {
+        crate::show::key(s, &reply);
+    }
+    s
 }
 
-pub fn pin(name: &[u8], before: Device, number: u8, high: bool) -> Device {
+fn pin(line: &[u8], before: Said, high: bool) -> Said {
     let panel = before.panel;
-    let s = events::pins::pin(panel, number, high);
-    crate::show::call(name, s);
-    with_panel(before, s)
+    let s = events::pins::pin(panel, crate::text::small(line), high);
+    crate::show::call(s);
+    s
+}
+
+// What the panel comes to by a word other than a case's and "line".
+fn said_after(word: usize, line: &[u8], before: Said) -> Said {
+    match word {
+        PRESS | RELEASE | LEND => key(word, line, before),
+        HIGH => pin(line, before, true),
+        LOW => pin(line, before, false),
+        SIZES => crate::wrong::sizes(line, before),
+        SET => crate::wrong::set(line, before),
+        UNFILED => crate::wrong::unfiled(line, before),
+        _ => before,
+    }
+}
+
+fn with_said(word: usize, line: &[u8], before: Called) -> Called {
+    let mut c = before;
+    let s = said_after(word, line, before.said);
+    c.said = s;
+    c
+}
+
+// A panel and its register after a line of the script.
+pub fn run(word: usize, line: &[u8], before: Called, picture: &mut [u8], font: &[u8]) -> Called {
+    match word {
+        HEADING => {
+            crate::text::word(line);
+            crate::text::word(b"\n");
+            powered_on(picture, font)
+        }
+        LINE => heard(line, before, picture, font),
+        COUNT => crate::wrong::count(line, before),
+        _ => with_said(word, line, before),
+    }
 }

@@ -1,18 +1,23 @@
 // Cases of the framing.
+use crate::words::COMPOSE;
+use crate::words::CUTS;
+use crate::words::HEADING;
+use crate::words::SCAN;
+use crate::words::SUM;
 use framing::scan::Scanned;
 use packets::hold::Hold;
 use packets::packet::Packet;
 
 // What calls come to, besides their packets.
-pub struct Sums {
-    pub hold: Hold,
-    pub dropped: usize,
-    pub checked: usize,
+struct Sums {
+    hold: Hold,
+    dropped: usize,
+    checked: usize,
 }
 
-pub fn nothing_held() -> Sums {
+fn from(hold: Hold) -> Sums {
     Sums {
-        hold: packets::hold::empty(),
+        hold,
         dropped: 0,
         checked: 0,
     }
@@ -34,11 +39,19 @@ fn with_call(s: Sums, r: Scanned) -> Sums {
 
 fn show_packet(p: Packet) {
     let content = p.content;
-    let n = lists::at_most(p.length, 22);
     crate::text::word(b" [");
-    crate::text::hex(p.kind);
-    crate::text::bytes(&content[..n]);
+    crate::text::byte(p.kind, true);
+    crate::text::bytes(b"", &content, p.length, true);
     crate::text::word(b"]");
+}
+
+fn shown(r: Scanned, took: bool) {
+    if took {
+        crate::text::filled(b" took %", &[r.taken]);
+    }
+    if r.found {
+        show_packet(r.packet);
+    }
 }
 
 // Calls until all is taken and the answer is waiting; `took` says whether to print what each call took. A packet has at
@@ -51,57 +64,68 @@ fn calls(before: Sums, bytes: &[u8], took: bool) -> Sums {
         let r = framing::scan::scan(h, &bytes[at..]);
         s = with_call(s, r);
         at += r.taken;
-        if took {
-            crate::text::number(b" took ", r.taken);
-        }
+        shown(r, took);
         if !r.found {
             return s;
         }
-        show_packet(r.packet);
     }
     s
 }
 
 fn end(s: Sums) {
-    let h = s.hold;
-    crate::text::number(b"; dropped ", s.dropped);
-    crate::text::number(b" checked ", s.checked);
-    crate::text::number(b" held ", h.count);
-    crate::text::word(b"\n");
+    let values = [s.dropped, s.checked, s.hold.count];
+    crate::text::filled(b"; dropped % checked % held %\n", &values);
 }
 
-// A line for the bytes given to calls as they are, from what is held.
-pub fn scan(before: Sums, bytes: &[u8]) -> Sums {
-    crate::text::word(b"scan");
-    let mut s = before;
-    s.dropped = 0;
-    s.checked = 0;
-    s = calls(s, bytes, true);
+// The bytes given to calls as they are, from what is held.
+fn scan(before: Hold, bytes: &[u8]) -> Hold {
+    let s = calls(from(before), bytes, true);
     end(s);
-    s
+    s.hold
 }
 
-// A line for the bytes cut in two at each place, from nothing held.
-pub fn cuts(bytes: &[u8]) {
+// A line for bytes in two pieces, from nothing held.
+fn cut(at: usize, first: &[u8], rest: &[u8]) {
+    crate::text::filled(b"cut at %", &[at]);
+    let nothing = from(packets::hold::empty());
+    let s = calls(nothing, first, false);
+    end(calls(s, rest, false));
+}
+
+// The bytes cut in two at each place.
+fn cuts(bytes: &[u8]) {
     for at in 0..bytes.len() {
-        crate::text::number(b"cut at ", at);
-        let first = calls(nothing_held(), &bytes[..at], false);
-        end(calls(first, &bytes[at..], false));
+        cut(at, &bytes[..at], &bytes[at..]);
     }
 }
 
-pub fn compose(bytes: &[u8]) {
-    crate::text::word(b"compose");
+fn compose(bytes: &[u8]) {
+    let mut out = [0u8; 26];
     if 0 < bytes.len() {
-        let mut out = [0u8; 26];
         let n = packets::packet::compose(&mut out, bytes[0], &bytes[1..]);
-        crate::text::bytes(&out[..lists::at_most(n, 26)]);
+        crate::text::bytes(b"", &out, n, true);
     }
     crate::text::word(b"\n");
 }
 
-pub fn checksum(bytes: &[u8]) {
-    crate::text::word(b"sum ");
-    crate::text::hex4(packets::fcs::checksum(bytes));
-    crate::text::word(b"\n");
+// What is held after a word with bytes.
+fn run_bytes(word: usize, bytes: &[u8], held: Hold) -> Hold {
+    match word {
+        SCAN => return scan(held, bytes),
+        CUTS => cuts(bytes),
+        COMPOSE => compose(bytes),
+        SUM => crate::text::checksum(bytes),
+        _ => {}
+    }
+    held
+}
+
+// What is held after a line of the script.
+pub fn run(word: usize, line: &[u8], held: Hold) -> Hold {
+    if word == HEADING {
+        return packets::hold::empty();
+    }
+    let mut room = [0u8; 256];
+    let n = crate::text::bytes_of(line, &mut room);
+    run_bytes(word, &room[0..n], held)
 }

@@ -1,55 +1,67 @@
-// What a call says, and what a panel and its register hold.
+// What a call says, and what a panel and its register hold. The word that a line begins with stands already.
+use answers::Numbers;
 use answers::Said;
 use filing::Record;
 use panel::state::Keys;
-use panel::state::Panel;
 use panel::state::Pins;
 use panel::state::Settings;
+use whole::line::Called;
 
-// A line for a line call: its answer, the reply and the cells listed.
+pub fn numbers(s: Said) -> Numbers {
+    let answer = s.answer;
+    answers::told(answer)
+}
+
+fn answered(n: Numbers) {
+    let values = [
+        n.number as usize,
+        n.command as usize,
+        n.reason as usize,
+        n.place as usize,
+    ];
+    crate::text::filled(b"line: % % % %", &values);
+}
+
+fn listed(reply: &[u8], replied: usize, list: &[u8], cells: usize) {
+    crate::text::bytes(b" reply", reply, replied, true);
+    crate::text::bytes(b" cells", list, cells, false);
+    crate::text::word(b"\n");
+}
+
+// A line for a line call, unless it waits: its answer, the reply and the cells listed.
 pub fn line(s: Said, reply: &[u8], list: &[u8]) {
-    let answer = s.answer;
-    let n = answers::told(answer);
-    crate::text::small(b"line: ", n.number);
-    crate::text::small(b" ", n.command);
-    crate::text::small(b" ", n.reason);
-    crate::text::small(b" ", n.place);
-    crate::text::word(b" reply");
-    crate::text::first_hex(reply, s.reply);
-    crate::text::word(b" cells");
-    crate::text::first_decimal(list, s.listed);
+    let n = numbers(s);
+    if n.number != 1 {
+        answered(n);
+        listed(reply, s.reply, list, s.listed);
+    }
+}
+
+// For a key call its number and the report.
+pub fn key(s: Said, reply: &[u8; 27]) {
+    let n = numbers(s);
+    crate::text::filled(b": %", &[n.number as usize]);
+    crate::text::bytes(b" reply", reply, s.reply, true);
     crate::text::word(b"\n");
 }
 
-// A line for a key call: its number and the report.
-pub fn key(name: &[u8], s: Said, reply: &[u8]) {
-    let answer = s.answer;
-    let n = answers::told(answer);
-    crate::text::word(name);
-    crate::text::small(b": ", n.number);
-    crate::text::word(b" reply");
-    crate::text::first_hex(reply, s.reply);
-    crate::text::word(b"\n");
-}
-
-// A line for any other call: its number.
-pub fn call(name: &[u8], s: Said) {
-    let answer = s.answer;
-    let n = answers::told(answer);
-    crate::text::word(name);
-    crate::text::small(b": ", n.number);
-    crate::text::word(b"\n");
+// For any other call its number.
+pub fn call(s: Said) {
+    let n = numbers(s);
+    crate::text::filled(b": %\n", &[n.number as usize]);
 }
 
 // A line for a record in use.
 fn fault(number: usize, r: Record) {
     if 0 < r.count {
-        crate::text::number(b"fault ", number);
-        crate::text::small(b": ", r.command);
-        crate::text::small(b" ", r.reason);
-        crate::text::small(b" ", r.place);
-        crate::text::number(b" count ", r.count as usize);
-        crate::text::word(b"\n");
+        let values = [
+            number,
+            r.command as usize,
+            r.reason as usize,
+            r.place as usize,
+            r.count as usize,
+        ];
+        crate::text::filled(b"fault %: % % % count %\n", &values);
     }
 }
 
@@ -59,38 +71,36 @@ pub fn faults(register: [Record; 64], unfiled: u32) {
         fault(i, register[i]);
         i += 1;
     }
-    crate::text::number(b"unfiled ", unfiled as usize);
-    crate::text::word(b"\n");
+    crate::text::filled(b"unfiled %\n", &[unfiled as usize]);
 }
 
-fn levels(l: [u8; 13]) {
-    crate::text::word(b" levels");
-    crate::text::first_decimal(&l, 13);
-}
-
-fn configs(c: [u8; 5]) {
-    crate::text::word(b" configs");
-    crate::text::first_decimal(&c, 5);
+fn wires(levels: [u8; 13], configs: [u8; 5]) {
+    crate::text::bytes(b" levels", &levels, 13, false);
+    crate::text::bytes(b" configs", &configs, 5, false);
 }
 
 fn settings(s: Settings) {
-    crate::text::small(b" cursor ", s.column);
-    crate::text::small(b" ", s.row);
-    crate::text::small(b" style ", s.style);
-    crate::text::small(b" contrast ", s.contrast);
-    crate::text::small(b" backlight ", s.backlight);
-    crate::text::small(b" masks ", s.press);
-    crate::text::small(b" ", s.release);
-    let pin_levels = s.levels;
-    levels(pin_levels);
-    let pin_configs = s.configs;
-    configs(pin_configs);
+    let values = [
+        s.column as usize,
+        s.row as usize,
+        s.style as usize,
+        s.contrast as usize,
+        s.backlight as usize,
+        s.press as usize,
+        s.release as usize,
+    ];
+    crate::text::filled(
+        b": cursor % % style % contrast % backlight % masks % %",
+        &values,
+    );
+    let levels = s.levels;
+    let configs = s.configs;
+    wires(levels, configs);
 }
 
 fn keys(k: Keys) {
-    crate::text::small(b" down ", k.down);
-    crate::text::small(b" pressed ", k.pressed);
-    crate::text::small(b" released ", k.released);
+    let values = [k.down as usize, k.pressed as usize, k.released as usize];
+    crate::text::filled(b" down % pressed % released %", &values);
 }
 
 fn bit(on: bool) {
@@ -103,11 +113,11 @@ fn bit(on: bool) {
 
 fn bits(name: &[u8], b: [bool; 5]) {
     crate::text::word(name);
-    bit(b[0]);
-    bit(b[1]);
-    bit(b[2]);
-    bit(b[3]);
-    bit(b[4]);
+    let mut i: usize = 0;
+    while i < 5 {
+        bit(b[i]);
+        i += 1;
+    }
 }
 
 fn pins(p: Pins) {
@@ -119,30 +129,33 @@ fn pins(p: Pins) {
     bits(b" rose", rose);
 }
 
-// A line for the state, but for the texts, glyphs and flash, which commands read.
-pub fn state(p: Panel) {
-    let b = p.body;
-    let h = p.hold;
-    crate::text::word(b"state:");
-    settings(b.live);
-    keys(b.keys);
-    pins(b.pins);
-    crate::text::number(b" held ", h.count);
-    crate::text::word(b"\n");
+// The state, but for the texts, glyphs and flash, which commands read.
+pub fn state(s: Said) {
+    settings(s.panel.body.live);
+    keys(s.panel.body.keys);
+    pins(s.panel.body.pins);
+    crate::text::filled(b" held %\n", &[s.panel.hold.count]);
 }
 
 // The eight bytes of a cell.
-pub fn cell(picture: &[u8], number: u8) {
-    crate::text::small(b"cell ", number);
-    crate::text::word(b":");
+fn cell(picture: &[u8], number: u8) {
     let rows = glyphs::eight(picture, 8 * number as u16);
-    crate::text::first_hex(&rows, 8);
+    crate::text::filled(b" %:", &[number as usize]);
+    crate::text::bytes(b"", &rows, 8, true);
     crate::text::word(b"\n");
 }
 
-// The checksum of the whole picture.
-pub fn picture(bytes: &[u8]) {
-    crate::text::word(b"picture ");
-    crate::text::hex4(packets::fcs::checksum(bytes));
-    crate::text::word(b"\n");
+// What a word shows of the panel, if it is one that shows something.
+pub fn run(word: usize, line: &[u8], c: Called, picture: &[u8]) {
+    match word {
+        crate::words::FAULTS => {
+            let register = c.register;
+            faults(register, c.said.panel.unfiled);
+        }
+        crate::words::STATE => state(c.said),
+        crate::words::CELL => cell(picture, crate::text::small(line)),
+        crate::words::PICTURE => crate::text::checksum(picture),
+        crate::words::POWER => crate::wrong::power(line),
+        _ => {}
+    }
 }

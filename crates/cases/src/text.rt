@@ -3,14 +3,14 @@ ghost use Prim.Native.Nat.{_≤_};
 ghost use lib.ListN.{length};
 use libc::STDOUT_FILENO;
 
-// Where the line that begins at `from` ends: at its newline, or at the end of the text.
-pub fn line_end(s: &[u8], from: usize) -> usize
+// Where the mark stands first from `from` on, or where the text ends.
+pub fn until(s: &[u8], from: usize, mark: u8) -> usize
     requires { ⌜ from ≤ length (now s) ⌝ }
     ensures { λ r. ⌜ (from ≤ r) × (r ≤ length (now (s .entry))) ⌝ }
 {
     let mut i = from;
     while i < s.len() {
-        if s[i] == b'\n' {
+        if s[i] == mark {
             return i;
         }
         i += 1;
@@ -19,7 +19,7 @@ pub fn line_end(s: &[u8], from: usize) -> usize
 }
 
 // The value of a hexadecimal digit, or 16 for any other byte.
-pub fn digit(b: u8) -> u8
+fn digit(b: u8) -> u8
     ensures { λ r. ⌜ r ≤ 16 ⌝ }
 {
     match b {
@@ -27,21 +27,6 @@ pub fn digit(b: u8) -> u8
         b'A'..=b'F' => b - b'A' + 10,
         _ => 16,
     }
-}
-
-// Whether `s` begins with the word.
-pub fn begins(s: &[u8], word: &[u8]) -> bool {
-    if s.len() < word.len() {
-        return false;
-    }
-    let mut i = 0;
-    while i < word.len() {
-        if s[i] != word[i] {
-            return false;
-        }
-        i += 1;
-    }
-    true
 }
 
 // The bytes that `s` spells in pairs of hexadecimal digits, as many as `out` has room for; whatever else stands in `s` is
@@ -69,47 +54,45 @@ pub fn word(s: &[u8]) {
     io::write_all(STDOUT_FILENO, s);
 }
 
-pub fn number(before: &[u8], n: usize) {
+// The text with the values in decimal in place of its % marks.
+pub fn filled(text: &[u8], values: &[usize]) {
+    let mut at: usize = 0;
+    let mut i: usize = 0;
+    while i < values.len() {
+        let end = until(text, at, b'%');
+        word(&text[at..end]);
+        io::print_decimal(STDOUT_FILENO, values[i] as u64);
+        at = lists::at_most(end + 1, text.len());
+        i += 1;
+    }
+    word(&text[at..]);
+}
+
+// A byte in hexadecimal or in decimal.
+pub fn byte(b: u8, hex: bool) {
+    if hex {
+        io::print_hex(STDOUT_FILENO, b as u64, 2);
+    } else {
+        io::print_decimal(STDOUT_FILENO, b as u64);
+    }
+}
+
+// A word and the first `n` bytes, each behind a blank.
+pub fn bytes(before: &[u8], s: &[u8], n: usize, hex: bool) {
     word(before);
-    io::print_decimal(STDOUT_FILENO, n as u64);
-}
-
-pub fn hex(b: u8) {
-    io::print_hex(STDOUT_FILENO, b as u64, 2);
-}
-
-pub fn hex4(n: u16) {
-    io::print_hex(STDOUT_FILENO, n as u64, 4);
-}
-
-// Each byte behind a blank.
-pub fn bytes(s: &[u8]) {
-    first_hex(s, s.len());
-}
-
-// A byte as a decimal number behind a word.
-pub fn small(before: &[u8], n: u8) {
-    word(before);
-    io::print_decimal(STDOUT_FILENO, n as u64);
-}
-
-// The first `n` bytes, each behind a blank, in hexadecimal.
-pub fn first_hex(s: &[u8], n: usize) {
-    let mut i = 0;
+    let mut i: usize = 0;
     while i < s.len() && i < n {
         word(b" ");
-        hex(s[i]);
+        byte(s[i], hex);
         i += 1;
     }
 }
 
-// The first `n` bytes, each behind a blank, in decimal.
-pub fn first_decimal(s: &[u8], n: usize) {
-    let mut i = 0;
-    while i < s.len() && i < n {
-        small(b" ", s[i]);
-        i += 1;
-    }
+// The checksum of bytes, to the line's end.
+pub fn checksum(s: &[u8]) {
+    word(b" ");
+    io::print_hex(STDOUT_FILENO, packets::fcs::checksum(s) as u64, 4);
+    word(b"\n");
 }
 
 // Reading decimal numbers: how many were passed, whether a digit came last, and the value of the one that is wanted.
@@ -146,8 +129,10 @@ fn read_more(r: Reading, wanted: usize, b: u8) -> Reading {
     r
 }
 
-// The decimal number of `s` that has `wanted` others before it; 0 if there is none.
-pub fn decimal(s: &[u8], wanted: usize) -> usize {
+// The decimal number of `s` that has `wanted` others before it, up to `most`; 0 if there is none.
+pub fn decimal(s: &[u8], wanted: usize, most: usize) -> usize
+    ensures { λ r. ⌜ r ≤ most ⌝ }
+{
     let mut r = Reading {
         passed: 0,
         inside: false,
@@ -158,10 +143,10 @@ pub fn decimal(s: &[u8], wanted: usize) -> usize {
         r = read_more(r, wanted, s[i]);
         i += 1;
     }
-    r.value
+    lists::at_most(r.value, most)
 }
 
-// The same as a byte; a larger number counts as 255.
-pub fn small_decimal(s: &[u8], wanted: usize) -> u8 {
-    lists::at_most(decimal(s, wanted), 255) as u8
+// The first number as a byte; a larger one counts as 255.
+pub fn small(s: &[u8]) -> u8 {
+    decimal(s, 0, 255) as u8
 }

@@ -1,70 +1,88 @@
-// The words of a script that drive the whole panel.
-use crate::device::Device;
-use crate::text::begins;
+// The words of a script, each with its number.
+use crate::text::until;
 
-// A key or a pin, by number.
-fn event(line: &[u8], d: Device) -> Device {
-    let n = crate::text::small_decimal(line, 0);
-    if begins(line, b"press ") {
-        return crate::device::key(b"press", d, n, true);
+// A case begins, or a value is set, and nothing is printed.
+pub const HEADING: usize = 0;
+
+pub const SET: usize = 1;
+
+pub const UNFILED: usize = 2;
+
+pub const COUNT: usize = 3;
+// What is printed begins with another word.
+pub const LINE: usize = 4;
+
+pub const FAULTS: usize = 5;
+
+pub const CUTS: usize = 6;
+// What is printed begins with the word itself.
+pub const PRESS: usize = 7;
+
+pub const RELEASE: usize = 8;
+
+pub const LEND: usize = 9;
+
+pub const HIGH: usize = 10;
+
+pub const LOW: usize = 11;
+
+pub const SIZES: usize = 12;
+
+pub const POWER: usize = 13;
+
+pub const STATE: usize = 14;
+
+pub const CELL: usize = 15;
+
+pub const PICTURE: usize = 16;
+
+pub const SCAN: usize = 17;
+
+pub const COMPOSE: usize = 18;
+
+pub const SUM: usize = 19;
+
+const OTHER: usize = 20;
+
+fn same(a: &[u8], b: &[u8]) -> bool {
+    if a.len() != b.len() {
+        return false;
     }
-    if begins(line, b"release ") {
-        return crate::device::key(b"release", d, n, false);
+    let mut i = 0;
+    while i < a.len() {
+        if a[i] != b[i] {
+            return false;
+        }
+        i += 1;
     }
-    if begins(line, b"high ") {
-        return crate::device::pin(b"high", d, n, true);
-    }
-    if begins(line, b"low ") {
-        return crate::device::pin(b"low", d, n, false);
-    }
-    d
+    true
 }
 
-// What only shows.
-fn shown(line: &[u8], d: Device) {
-    let p = d.panel;
-    let picture = d.picture;
-    if begins(line, b"faults") {
-        let records = d.register;
-        crate::show::faults(records, p.unfiled);
+// How many words of the list stand before the word.
+fn place(word: &[u8], list: &[u8]) -> usize {
+    let mut n: usize = 0;
+    let mut at: usize = 0;
+    while at < list.len() {
+        let end = until(list, at, b' ');
+        if same(word, &list[at..end]) {
+            return n;
+        }
+        n += 1;
+        at = end + 1;
     }
-    if begins(line, b"state") {
-        crate::show::state(p);
-    }
-    if begins(line, b"cell ") {
-        crate::show::cell(&picture, crate::text::small_decimal(line, 0));
-    }
-    if begins(line, b"picture") {
-        crate::show::picture(&picture);
-    }
-    if begins(line, b"power ") {
-        crate::wrong::power(line);
-    }
+    n
 }
 
-// Calls with other buffers, and what is set without a call.
-fn forced(line: &[u8], d: Device) -> Device {
-    if begins(line, b"sizes ") {
-        return crate::wrong::sizes(d, line);
+// The number of the word that a line begins with, after printing it where what is printed begins so.
+pub fn number(line: &[u8]) -> usize {
+    let end = until(line, 0, b' ');
+    let word = &line[0..end];
+    let n = place(
+        word,
+        b"# set unfiled count line faults cuts press release lend high low sizes power state cell picture scan compose sum",
+    );
+    if PRESS <= n && n < OTHER {
+        crate::text::word(word);
     }
-    if begins(line, b"lend ") {
-        return crate::wrong::key(d, line);
-    }
-    if begins(line, b"set ") {
-        return crate::wrong::set(d, line);
-    }
-    if begins(line, b"count ") {
-        return crate::wrong::count(d, line);
-    }
-    if begins(line, b"unfiled ") {
-        return crate::wrong::unfiled(d, line);
-    }
-    d
-}
-
-// The device after a line of the script; one whose word is not of this file does nothing.
-pub fn run(line: &[u8], before: Device) -> Device {
-    shown(line, before);
-    let d = forced(line, before);
-    event(line, d)
+    n
 }

@@ -1,22 +1,25 @@
 // Calls with buffers of other sizes, states that no command sets, and counts that no case could reach by refusals.
-use crate::device::Device;
+ghost use Prim.Native.Nat.{_≤_};
+use crate::text::decimal;
+use answers::Said;
 use filing::Record;
+use whole::line::Called;
 
 // One line call on a piece of zeros, which hold no packet; the line tells, in order, the sizes of the piece, the picture, the
 // font, the list, the reply buffer and the register.
-pub fn sizes(before: Device, line: &[u8]) -> Device {
-    let panel = before.panel;
+pub fn sizes(line: &[u8], before: Said) -> Said {
     let piece = [0u8; 4097];
     let mut screen = [0u8; 641];
     let font = [0u8; 2049];
     let mut list = [0u8; 81];
     let mut reply = [0u8; 27];
-    let a = lists::at_most(crate::text::decimal(line, 0), 4097);
-    let b = lists::at_most(crate::text::decimal(line, 1), 641);
-    let c = lists::at_most(crate::text::decimal(line, 2), 2049);
-    let d = lists::at_most(crate::text::decimal(line, 3), 81);
-    let e = lists::at_most(crate::text::decimal(line, 4), 27);
-    let records = crate::text::decimal(line, 5);
+    let a = decimal(line, 0, 4097);
+    let b = decimal(line, 1, 641);
+    let c = decimal(line, 2, 2049);
+    let d = decimal(line, 3, 81);
+    let e = decimal(line, 4, 27);
+    let records = decimal(line, 5, 65);
+    let panel = before.panel;
     let s = picture::calls::line(
         panel,
         &piece[..a],
@@ -26,12 +29,14 @@ pub fn sizes(before: Device, line: &[u8]) -> Device {
         &mut reply[..e],
         records,
     );
-    crate::show::call(b"sizes", s);
-    crate::device::with_panel(before, s)
+    crate::show::call(s);
+    s
 }
 
 fn drawn(screen: &[u8; 641]) {
-    crate::show::picture(screen);
+    crate::text::word(b"picture");
+    crate::text::checksum(screen);
+    crate::text::word(b"state");
 }
 
 // Power-on with a picture and a font of the sizes that the line tells; the picture's checksum and the state show that a
@@ -39,78 +44,68 @@ fn drawn(screen: &[u8; 641]) {
 pub fn power(line: &[u8]) {
     let mut screen = [170u8; 641];
     let font = [0u8; 2049];
-    let b = lists::at_most(crate::text::decimal(line, 0), 641);
-    let c = lists::at_most(crate::text::decimal(line, 1), 2049);
+    let b = decimal(line, 0, 641);
+    let c = decimal(line, 1, 2049);
     let s = picture::calls::power_on(&mut screen[..b], &font[..c]);
-    crate::show::call(b"power", s);
+    crate::show::call(s);
     drawn(&screen);
-    crate::show::state(s.panel);
+    crate::show::state(s);
 }
 
-// A key pressed with a reply buffer of the size that the line tells behind the key.
-pub fn key(before: Device, line: &[u8]) -> Device {
-    let panel = before.panel;
-    let mut reply = [0u8; 27];
-    let number = crate::text::small_decimal(line, 0);
-    let e = lists::at_most(crate::text::decimal(line, 1), 27);
-    let s = events::keys::key(panel, number, true, &mut reply[..e]);
-    crate::show::call(b"lend", s);
-    crate::device::with_panel(before, s)
+// The size of a key's reply buffer: the right one, or what stands behind the key that "lend" names.
+pub fn reply_size(word: usize, line: &[u8]) -> usize
+    ensures { λ r. ⌜ r ≤ 27 ⌝ }
+{
+    if word == crate::words::LEND {
+        return decimal(line, 1, 27);
+    }
+    26
 }
 
 // One value of the state set without a command: of the live settings the contrast, of the boot state the style, the keys
-// down, or how many bytes are held.
-pub fn set(before: Device, line: &[u8]) -> Device {
-    let mut d = before;
-    let n = crate::text::small_decimal(line, 0);
-    let mut p = d.panel;
-    let mut b = p.body;
-    if crate::text::begins(line, b"set contrast ") {
-        let mut live = b.live;
-        live.contrast = n;
-        b.live = live;
+// down, or how many bytes are held. Its first letter tells which.
+pub fn set(line: &[u8], before: Said) -> Said {
+    let n = crate::text::small(line);
+    let mut s = before;
+    match lists::at(line, 4) {
+        b'c' => s.panel.body.live.contrast = n,
+        b'b' => s.panel.body.boot.style = n,
+        b'd' => s.panel.body.keys.down = n,
+        _ => {
+            let held = n as usize;
+            s.panel.hold.count = held;
+        }
     }
-    if crate::text::begins(line, b"set boot style ") {
-        let mut boot = b.boot;
-        boot.style = n;
-        b.boot = boot;
-    }
-    if crate::text::begins(line, b"set down ") {
-        let mut k = b.keys;
-        k.down = n;
-        b.keys = k;
-    }
-    if crate::text::begins(line, b"set held ") {
-        let mut h = p.hold;
-        h.count = lists::wide(n);
-        p.hold = h;
-    }
-    p.body = b;
-    d.panel = p;
-    d
+    s
 }
 
-fn word32(n: usize) -> u32 {
-    lists::at_most(n, 4294967295) as u32
-}
-
-// A record's count set: its number and the count.
-pub fn count(before: Device, line: &[u8]) -> Device {
-    let mut d = before;
-    let mut records: [Record; 64] = d.register;
-    let i = lists::at_most(crate::text::decimal(line, 0), 63);
-    let mut r = records[i];
-    r.count = word32(crate::text::decimal(line, 1));
-    records[i] = r;
-    d.register = records;
-    d
+fn word32(line: &[u8], wanted: usize) -> u32 {
+    decimal(line, wanted, 4294967295) as u32
 }
 
 // The unfiled number set.
-pub fn unfiled(before: Device, line: &[u8]) -> Device {
-    let mut d = before;
-    let mut p = d.panel;
-    p.unfiled = word32(crate::text::decimal(line, 0));
-    d.panel = p;
-    d
+pub fn unfiled(line: &[u8], before: Said) -> Said {
+    let n = word32(line, 0);
+    let mut s = before;
+    s.panel.unfiled = n;
+    s
+}
+
+fn counted(register: [Record; 64], number: usize, count: u32) -> [Record; 64] {
+    let mut records = register;
+    if number < 64 {
+        let mut r = records[number];
+        r.count = count;
+        records[number] = r;
+    }
+    records
+}
+
+// A record's count set: its number and the count.
+pub fn count(line: &[u8], before: Called) -> Called {
+    let mut c = before;
+    let records = c.register;
+    let register = counted(records, decimal(line, 0, 63), word32(line, 1));
+    c.register = register;
+    c
 }

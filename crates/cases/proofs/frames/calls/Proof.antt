@@ -7,10 +7,10 @@ use Rattle.cases.proofs.frames.calls.Statement.{statement}
 use Rattle.cases.proofs.frames.calls.Tie as tie
 
 abbrev Inv-loop : tie.InvT-loop
-Inv-loop bytes took s₀ at₀ t8 counter₀ end s at counter = (at ≤ length bytes) × (counter ≤ end)
+Inv-loop bytes took s₀ at₀ counter₀ end s at counter = (at ≤ length bytes) × (counter ≤ end)
 
 abbrev μ-loop : tie.MeasureT-loop
-μ-loop bytes took s₀ at₀ t8 counter₀ end s at counter = end - counter
+μ-loop bytes took s₀ at₀ counter₀ end s at counter = end - counter
 
 -- a call takes no more than its piece, so the next one begins within the bytes
 taken-within : (c : tie.After-scan Inv-loop μ-loop) → c .before .before .before .before .loop .at + c .scan .result .taken ≤ length (c .before .before .before .before .before .before .args .bytes .now)
@@ -44,21 +44,15 @@ with-call-requires c κs = search needs
 add-at : tie.Need-add-at Inv-loop μ-loop
 add-at c = omega (arith, taken-within (c .before .before))
 
-slice-aggregate-number : tie.Need-slice-aggregate-number Inv-loop μ-loop
-slice-aggregate-number c = search needs
-
-number-requires : tie.Need-number-requires Inv-loop μ-loop
-number-requires c κs = search needs
+shown-requires : tie.Need-shown-requires Inv-loop μ-loop
+shown-requires c κs = search needs
 
 returns : tie.Need-returns Inv-loop μ-loop
 returns c = search needs
 
-show-packet-requires : tie.Need-show-packet-requires Inv-loop μ-loop
-show-packet-requires c κs = search needs
-
 add-counter : tie.Need-add-counter Inv-loop μ-loop
 add-counter c =
-    let l = c .before .before .before .before .before .before .before .before .before in
+    let l = c .before .before .before .before .before .before .before .before in
     omega (arith, l .loop-test .taken, add-end (l .before .before))
 
 loop-less : tie.Need-loop-less Inv-loop μ-loop
@@ -66,7 +60,7 @@ loop-less c = search needs
 
 loop-again : tie.Need-loop-again Inv-loop μ-loop
 loop-again c =
-    let w = c .before .before .before .before .before .before in
+    let w = c .before .before .before .before .before in
     (taken-within w, omega (arith, w .before .before .before .loop-test .taken))
 
 returns-2 : tie.Need-returns-2 Inv-loop μ-loop
@@ -86,10 +80,8 @@ calls-spec =
     scan-requires
     with-call-requires
     add-at
-    slice-aggregate-number
-    number-requires
+    shown-requires
     returns
-    show-packet-requires
     add-counter
     loop-less
     loop-again

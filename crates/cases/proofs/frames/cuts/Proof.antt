@@ -7,43 +7,28 @@ use Rattle.cases.proofs.frames.cuts.Statement.{statement}
 use Rattle.cases.proofs.frames.cuts.Tie as tie
 
 abbrev Inv-loop : tie.InvT-loop
-Inv-loop bytes at₀ t4 at-end at = at ≤ at-end
+Inv-loop bytes at₀ at-end at = at ≤ at-end
 
 abbrev μ-loop : tie.MeasureT-loop
-μ-loop bytes at₀ t4 at-end at = at-end - at
+μ-loop bytes at₀ at-end at = at-end - at
 
 loop-holds : tie.Need-loop-holds Inv-loop μ-loop
 loop-holds c = search needs
 
-slice-aggregate-number : tie.Need-slice-aggregate-number Inv-loop μ-loop
-slice-aggregate-number c = search needs
+slice-aggregate-cut : tie.Need-slice-aggregate-cut Inv-loop μ-loop
+slice-aggregate-cut c = sym (length-take-le _ _ (omega arith))
 
-number-requires : tie.Need-number-requires Inv-loop μ-loop
-number-requires c κs = search needs
+sub-cut : tie.Need-sub-cut Inv-loop μ-loop
+sub-cut c = search needs
 
-nothing-held-requires : tie.Need-nothing-held-requires Inv-loop μ-loop
-nothing-held-requires c κs = search needs
+part-cut-start : tie.Need-part-cut-start Inv-loop μ-loop
+part-cut-start c = search needs
 
-slice-aggregate-calls : tie.Need-slice-aggregate-calls Inv-loop μ-loop
-slice-aggregate-calls c = sym (length-take-le _ _ (omega arith))
+part-cut-end : tie.Need-part-cut-end Inv-loop μ-loop
+part-cut-end c = search needs
 
-calls-requires : tie.Need-calls-requires Inv-loop μ-loop
-calls-requires c κs = search needs
-
-sub-calls : tie.Need-sub-calls Inv-loop μ-loop
-sub-calls c = search needs
-
-part-calls-start : tie.Need-part-calls-start Inv-loop μ-loop
-part-calls-start c = search needs
-
-part-calls-end : tie.Need-part-calls-end Inv-loop μ-loop
-part-calls-end c = search needs
-
-calls-requires-2 : tie.Need-calls-requires-2 Inv-loop μ-loop
-calls-requires-2 c κs = search needs
-
-end-requires : tie.Need-end-requires Inv-loop μ-loop
-end-requires c κs = search needs
+cut-requires : tie.Need-cut-requires Inv-loop μ-loop
+cut-requires c κs = search needs
 
 add-at : tie.Need-add-at Inv-loop μ-loop
 add-at c = search needs
@@ -64,16 +49,11 @@ cuts-spec =
     Inv-loop
     μ-loop
     loop-holds
-    slice-aggregate-number
-    number-requires
-    nothing-held-requires
-    slice-aggregate-calls
-    calls-requires
-    sub-calls
-    part-calls-start
-    part-calls-end
-    calls-requires-2
-    end-requires
+    slice-aggregate-cut
+    sub-cut
+    part-cut-start
+    part-cut-end
+    cut-requires
     add-at
     loop-less
     loop-again

@@ -4,10 +4,10 @@ use Rattle.cases.proofs.show.faults.Statement.{statement}
 use Rattle.cases.proofs.show.faults.Tie as tie
 
 abbrev Inv-loop : tie.InvT-loop
-Inv-loop unfiled register i₀ t5 t6 i = i ≤ 64
+Inv-loop unfiled register i₀ t5 i = i ≤ 64
 
 abbrev μ-loop : tie.MeasureT-loop
-μ-loop unfiled register i₀ t5 t6 i = 64 - i
+μ-loop unfiled register i₀ t5 i = 64 - i
 
 loop-holds : tie.Need-loop-holds Inv-loop μ-loop
 loop-holds c = search needs
@@ -30,17 +30,14 @@ loop-less c = search needs
 loop-again : tie.Need-loop-again Inv-loop μ-loop
 loop-again c = search needs
 
-slice-aggregate-number : tie.Need-slice-aggregate-number Inv-loop μ-loop
-slice-aggregate-number c = search needs
+slice-aggregate-filled : tie.Need-slice-aggregate-filled Inv-loop μ-loop
+slice-aggregate-filled c = search needs
 
-number-requires : tie.Need-number-requires Inv-loop μ-loop
-number-requires c κs = search needs
+slice-aggregate-filled-2 : tie.Need-slice-aggregate-filled-2 Inv-loop μ-loop
+slice-aggregate-filled-2 c = search needs
 
-slice-aggregate-word : tie.Need-slice-aggregate-word Inv-loop μ-loop
-slice-aggregate-word c = search needs
-
-word-requires : tie.Need-word-requires Inv-loop μ-loop
-word-requires c κs = search needs
+filled-requires : tie.Need-filled-requires Inv-loop μ-loop
+filled-requires c κs = search needs
 
 returns : tie.Need-returns Inv-loop μ-loop
 returns c = search needs
@@ -58,8 +55,7 @@ faults-spec =
     add-i
     loop-less
     loop-again
-    slice-aggregate-number
-    number-requires
-    slice-aggregate-word
-    word-requires
+    slice-aggregate-filled
+    slice-aggregate-filled-2
+    filled-requires
     returns)

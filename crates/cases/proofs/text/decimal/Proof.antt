@@ -5,10 +5,10 @@ use Rattle.cases.proofs.text.decimal.Statement.{statement}
 use Rattle.cases.proofs.text.decimal.Tie as tie
 
 abbrev Inv-loop : tie.InvT-loop
-Inv-loop s wanted r₀ i₀ r i = i ≤ length s
+Inv-loop s wanted most r₀ i₀ r i = i ≤ length s
 
 abbrev μ-loop : tie.MeasureT-loop
-μ-loop s wanted r₀ i₀ r i = length s - i
+μ-loop s wanted most r₀ i₀ r i = length s - i
 
 loop-holds : tie.Need-loop-holds Inv-loop μ-loop
 loop-holds c = search needs
@@ -28,6 +28,9 @@ loop-less c = search needs
 loop-again : tie.Need-loop-again Inv-loop μ-loop
 loop-again c = search needs
 
+at-most-requires : tie.Need-at-most-requires Inv-loop μ-loop
+at-most-requires c κs = search needs
+
 returns : tie.Need-returns Inv-loop μ-loop
 returns c = search needs
 
@@ -43,4 +46,5 @@ decimal-spec =
     add-i
     loop-less
     loop-again
+    at-most-requires
     returns)

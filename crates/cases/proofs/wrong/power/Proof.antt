@@ -1,20 +1,15 @@
 use mathlib.Core.Path.{sym}
 use lib.Seq.{length-take-le}
 use borrow.Author.Needs.{needs}
+use borrow.Author.Needs.{needs}
 use Rattle.cases.proofs.wrong.power.Statement.{statement}
 use Rattle.cases.proofs.wrong.power.Tie as tie
 
 decimal-requires : tie.Need-decimal-requires
 decimal-requires c κs = search needs
 
-at-most-requires : tie.Need-at-most-requires
-at-most-requires c κs = search needs
-
 decimal-requires-2 : tie.Need-decimal-requires-2
 decimal-requires-2 c κs = search needs
-
-at-most-requires-2 : tie.Need-at-most-requires-2
-at-most-requires-2 c κs = search needs
 
 array-borrow-prefix-screen : tie.Need-array-borrow-prefix-screen
 array-borrow-prefix-screen c = search needs
@@ -30,9 +25,6 @@ slice-aggregate-power-on-2 c = sym (length-take-le _ _ (array-share-prefix-font 
 
 power-on-requires : tie.Need-power-on-requires
 power-on-requires c κs = search needs
-
-slice-aggregate-call : tie.Need-slice-aggregate-call
-slice-aggregate-call c = search needs
 
 call-requires : tie.Need-call-requires
 call-requires c κs = search needs
@@ -51,15 +43,12 @@ power-spec =
     tie.close
     (tie.spec
     decimal-requires
-    at-most-requires
     decimal-requires-2
-    at-most-requires-2
     array-borrow-prefix-screen
     slice-aggregate-power-on
     array-share-prefix-font
     slice-aggregate-power-on-2
     power-on-requires
-    slice-aggregate-call
     call-requires
     drawn-requires
     state-requires

@@ -1,38 +1,24 @@
 use mathlib.Core.Path.{sym}
 use lib.Seq.{length-take-le}
 use borrow.Author.Needs.{needs}
+use borrow.Author.Needs.{needs}
 use Rattle.cases.proofs.wrong.sizes.Statement.{statement}
 use Rattle.cases.proofs.wrong.sizes.Tie as tie
 
 decimal-requires : tie.Need-decimal-requires
 decimal-requires c κs = search needs
 
-at-most-requires : tie.Need-at-most-requires
-at-most-requires c κs = search needs
-
 decimal-requires-2 : tie.Need-decimal-requires-2
 decimal-requires-2 c κs = search needs
-
-at-most-requires-2 : tie.Need-at-most-requires-2
-at-most-requires-2 c κs = search needs
 
 decimal-requires-3 : tie.Need-decimal-requires-3
 decimal-requires-3 c κs = search needs
 
-at-most-requires-3 : tie.Need-at-most-requires-3
-at-most-requires-3 c κs = search needs
-
 decimal-requires-4 : tie.Need-decimal-requires-4
 decimal-requires-4 c κs = search needs
 
-at-most-requires-4 : tie.Need-at-most-requires-4
-at-most-requires-4 c κs = search needs
-
 decimal-requires-5 : tie.Need-decimal-requires-5
 decimal-requires-5 c κs = search needs
-
-at-most-requires-5 : tie.Need-at-most-requires-5
-at-most-requires-5 c κs = search needs
 
 decimal-requires-6 : tie.Need-decimal-requires-6
 decimal-requires-6 c κs = search needs
@@ -70,14 +56,8 @@ slice-aggregate-line-5 c = sym (length-take-le _ _ (array-borrow-prefix-reply (c
 line-requires : tie.Need-line-requires
 line-requires c κs = search needs
 
-slice-aggregate-call : tie.Need-slice-aggregate-call
-slice-aggregate-call c = search needs
-
 call-requires : tie.Need-call-requires
 call-requires c κs = search needs
-
-with-panel-requires : tie.Need-with-panel-requires
-with-panel-requires c κs = search needs
 
 returns : tie.Need-returns
 returns c = search needs
@@ -87,15 +67,10 @@ sizes-spec =
     tie.close
     (tie.spec
     decimal-requires
-    at-most-requires
     decimal-requires-2
-    at-most-requires-2
     decimal-requires-3
-    at-most-requires-3
     decimal-requires-4
-    at-most-requires-4
     decimal-requires-5
-    at-most-requires-5
     decimal-requires-6
     array-share-prefix-piece
     slice-aggregate-line
@@ -108,7 +83,5 @@ sizes-spec =
     array-borrow-prefix-reply
     slice-aggregate-line-5
     line-requires
-    slice-aggregate-call
     call-requires
-    with-panel-requires
     returns)

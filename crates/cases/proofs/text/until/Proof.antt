@@ -1,14 +1,14 @@
 use Prim.Native.Nat.{_≤_, _-_}
 use lib.ListN.{length}
 use borrow.Author.Needs.{needs}
-use Rattle.cases.proofs.text.line_end.Statement.{statement}
-use Rattle.cases.proofs.text.line_end.Tie as tie
+use Rattle.cases.proofs.text.until.Statement.{statement}
+use Rattle.cases.proofs.text.until.Tie as tie
 
 abbrev Inv-loop : tie.InvT-loop
-Inv-loop s from i₀ i = (from ≤ i) × (i ≤ length s)
+Inv-loop s from mark i₀ i = (from ≤ i) × (i ≤ length s)
 
 abbrev μ-loop : tie.MeasureT-loop
-μ-loop s from i₀ i = length s - i
+μ-loop s from mark i₀ i = length s - i
 
 loop-holds : tie.Need-loop-holds Inv-loop μ-loop
 loop-holds c = search needs
@@ -31,8 +31,8 @@ loop-again c = search needs
 returns-2 : tie.Need-returns-2 Inv-loop μ-loop
 returns-2 c = search needs
 
-pub line-end-spec : {M : Type 1} → statement M
-line-end-spec =
+pub until-spec : {M : Type 1} → statement M
+until-spec =
     tie.close
     (tie.spec
     Inv-loop

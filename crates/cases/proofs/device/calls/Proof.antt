@@ -1,14 +1,15 @@
 use Prim.Native.Nat.{_≤_, _-_}
+use mathlib.Core.Path.{_≡_}
 use lib.ListN.{length}
 use borrow.Author.Needs.{needs}
-use Rattle.cases.proofs.device.line.Statement.{statement}
-use Rattle.cases.proofs.device.line.Tie as tie
+use Rattle.cases.proofs.device.calls.Statement.{statement}
+use Rattle.cases.proofs.device.calls.Tie as tie
 
 abbrev Inv-loop : tie.InvT-loop
-Inv-loop bytes font d₀ at₀ counter₀ end d at counter = (at ≤ length bytes) × (counter ≤ end)
+Inv-loop bytes picture₀ font c₀ at₀ counter₀ end picture c at counter = (at ≤ length bytes) × (counter ≤ end) × (length picture ≡ length picture₀)
 
 abbrev μ-loop : tie.MeasureT-loop
-μ-loop bytes font d₀ at₀ counter₀ end d at counter = end - counter
+μ-loop bytes picture₀ font c₀ at₀ counter₀ end picture c at counter = end - counter
 
 add-end : tie.Need-add-end Inv-loop μ-loop
 add-end c = search needs
@@ -37,6 +38,12 @@ at-most-requires c κs = search needs
 add-at : tie.Need-add-at Inv-loop μ-loop
 add-at c = search needs
 
+is-packet-requires : tie.Need-is-packet-requires Inv-loop μ-loop
+is-packet-requires c κs = search needs
+
+same-length : tie.Need-same-length Inv-loop μ-loop
+same-length c = search needs
+
 returns : tie.Need-returns Inv-loop μ-loop
 returns c = search needs
 
@@ -49,11 +56,14 @@ loop-less c = search needs
 loop-again : tie.Need-loop-again Inv-loop μ-loop
 loop-again c = search needs
 
+same-length-2 : tie.Need-same-length-2 Inv-loop μ-loop
+same-length-2 c = search needs
+
 returns-2 : tie.Need-returns-2 Inv-loop μ-loop
 returns-2 c = search needs
 
-pub line-spec : {M : Type 1} → statement M
-line-spec =
+pub calls-spec : {M : Type 1} → statement M
+calls-spec =
     tie.close
     (tie.spec
     Inv-loop
@@ -67,8 +77,11 @@ line-spec =
     sub-at-most
     at-most-requires
     add-at
+    is-packet-requires
+    same-length
     returns
     add-counter
     loop-less
     loop-again
+    same-length-2
     returns-2)

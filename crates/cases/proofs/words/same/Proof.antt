@@ -1,14 +1,14 @@
 use Prim.Native.Nat.{_≤_, _-_}
 use lib.ListN.{length}
 use borrow.Author.Needs.{needs}
-use Rattle.cases.proofs.text.begins.Statement.{statement}
-use Rattle.cases.proofs.text.begins.Tie as tie
+use Rattle.cases.proofs.words.same.Statement.{statement}
+use Rattle.cases.proofs.words.same.Tie as tie
 
 abbrev Inv-loop : tie.InvT-loop
-Inv-loop s word i₀ i = (i ≤ length word) × (length word ≤ length s)
+Inv-loop a b i₀ i = (i ≤ length a) × (length a ≤ length b)
 
 abbrev μ-loop : tie.MeasureT-loop
-μ-loop s word i₀ i = length word - i
+μ-loop a b i₀ i = length a - i
 
 returns : tie.Need-returns Inv-loop μ-loop
 returns c = search needs
@@ -37,8 +37,8 @@ loop-again c = search needs
 returns-3 : tie.Need-returns-3 Inv-loop μ-loop
 returns-3 c = search needs
 
-pub begins-spec : {M : Type 1} → statement M
-begins-spec =
+pub same-spec : {M : Type 1} → statement M
+same-spec =
     tie.close
     (tie.spec
     Inv-loop
