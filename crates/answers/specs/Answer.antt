@@ -52,6 +52,19 @@ decided (check passes answer ∷ checks) refused accepted = when passes then dec
 abbrev pub refusedCall : Panel → Answer → Said
 refusedCall p a = record { panel = p; answer = a; taken = 0; dropped = 0; checked = 0; reply = 0; listed = 0 }
 
+-- the same with another unfiled number
+abbrev pub withUnfiled : Said → ℕ → Said
+withUnfiled s n =
+    record {
+      panel = record { hold = s .panel .hold; body = s .panel .body; unfiled = n };
+      answer = s .answer;
+      taken = s .taken;
+      dropped = s .dropped;
+      checked = s .checked;
+      reply = s .reply;
+      listed = s .listed;
+    }
+
 -- what `told` promises
 abbrev pub Tells : Answer → Numbers → Type 0
 Tells a r = r ≡ numbersOf a

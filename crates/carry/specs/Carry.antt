@@ -3,11 +3,11 @@ use Prim.Native.Nat.{ℕ, _+_, _*_, _-_, _/_, _%_}
 use mathlib.Core.Path.{_≡_}
 use mathlib.Core.Bool.{Bool, true, false}
 use mathlib.Core.List.{List, [], _∷_}
-use lib.ListN.{length, getD, take, drop, set, replicate}
+use lib.ListN.{length, getD, drop, set, replicate}
 use Rattle.lists.specs.Tests.{when_then_else_, _<?_, _=?_}
 use Rattle.lists.specs.Runs.{pasted}
 use Rattle.packets.specs.declared.packet.Packet.{Packet}
-use Rattle.packets.specs.Packet.{packetOf}
+use Rattle.packets.specs.Packet.{packetOf, contentOf}
 use Rattle.panel.specs.declared.state.Settings.{Settings}
 use Rattle.panel.specs.declared.state.Keys.{Keys}
 use Rattle.panel.specs.declared.state.Pins.{Pins}
@@ -171,10 +171,6 @@ replyData code d b =
     else when code =? 24 then b .keys .down ∷ b .keys .pressed ∷ b .keys .released ∷ []
     else when code =? 35 then pinReply b (getD d 0 0)
     else []
-
--- the data bytes of a packet as the code has it
-abbrev pub contentOf : Packet → List ℕ
-contentOf p = take (p .length) (p .content)
 
 -- the command that a packet's low six type bits name, carried out: "A reply has type 64 + code and no data unless named."
 unfoldable pub carried : Body → Packet → Carried

@@ -1,5 +1,4 @@
 // A packet's command carried out.
-ghost use mathlib.Core.Path.{_≡_};
 ghost use Rattle.carry.specs.Carry.{Carries};
 use packets::packet::Packet;
 use panel::state::Body;

@@ -27,7 +27,7 @@ pub fn font() -> [u8; 2048] {
 // A panel at power-on, over a picture of other bytes, and an empty register.
 pub fn powered_on(picture: &mut [u8], font: &[u8]) -> Called {
     let said = picture::calls::power_on(picture, font);
-    let register = register::run::empty();
+    let register = filing::empty();
     Called { said, register }
 }
 

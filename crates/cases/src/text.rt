@@ -91,7 +91,7 @@ pub fn bytes(before: &[u8], s: &[u8], n: usize, hex: bool) {
 // The checksum of bytes, to the line's end.
 pub fn checksum(s: &[u8]) {
     word(b" ");
-    io::print_hex(STDOUT_FILENO, packets::fcs::checksum(s) as u64, 4);
+    io::print_hex(STDOUT_FILENO, fcs::checksum(s) as u64, 4);
     word(b"\n");
 }
 

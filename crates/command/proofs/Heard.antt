@@ -6,7 +6,7 @@ use mathlib.Core.List.{List, []}
 use borrow.Author.Tests.{ltb-true, ltb-false}
 use Rattle.lists.proofs.Laws.{when-either}
 use Rattle.packets.specs.declared.packet.Packet.{Packet}
-use Rattle.packets.specs.Packet.{packetOf}
+use Rattle.packets.specs.Packet.{packetOf, contentOf}
 use Rattle.framing.specs.declared.scan.Scanned.{Scanned}
 use Rattle.verdict.specs.declared.verdict.Reason.{Reason}
 use Rattle.verdict.specs.declared.verdict.Verdict.{Verdict}
@@ -14,12 +14,13 @@ use Rattle.verdict.specs.declared.verdict.Verdict.the-variants as verdicts
 use Rattle.verdict.specs.Verdict.{verdictOf}
 use Rattle.panel.specs.declared.state.Body.{Body}
 use Rattle.panel.specs.declared.state.Panel.{Panel}
-use Rattle.carry.specs.Carry.{contentOf, carried}
+use Rattle.carry.specs.Carry.{carried}
 use Rattle.answers.specs.declared.Answer.the-variants.{Waiting, Done, Refused}
 use Rattle.answers.specs.declared.Said.{Said}
-use Rattle.command.specs.declared.step.Stepped.{Stepped}
+use Rattle.command.specs.declared.hear.Stepped.{Stepped}
 use Rattle.command.specs.Step.{strayed, ruled, stepOf}
-use Rattle.command.specs.Hear.{writtenLength, written, saidOf, heardBy, replyBy, Hears}
+use Rattle.replies.specs.Reply.{writtenLength, written}
+use Rattle.command.specs.Hear.{saidOf, heardBy, replyBy, Hears}
 use Rattle.command.proofs.Hearing.{nothing-heard, packet-heard}
 
 -- a packet is a stray, a command done or a command refused

@@ -8,9 +8,10 @@ use Rattle.framing.specs.declared.scan.Scanned.{Scanned}
 use Rattle.panel.specs.declared.state.Panel.{Panel}
 use Rattle.answers.specs.declared.Answer.the-variants.{Waiting}
 use Rattle.answers.specs.declared.Said.{Said}
-use Rattle.command.specs.declared.step.Stepped.{Stepped}
+use Rattle.command.specs.declared.hear.Stepped.{Stepped}
 use Rattle.command.specs.Step.{stepOf}
-use Rattle.command.specs.Hear.{writtenLength, written, saidOf, heardBy, replyBy}
+use Rattle.replies.specs.Reply.{writtenLength, written}
+use Rattle.command.specs.Hear.{saidOf, heardBy, replyBy}
 
 module _ (p : Panel) (s : Scanned) (out : List ℕ) where
   pub nothing-heard : s .found ≡ false → (saidOf p s (p .body) Waiting 0 ≡ heardBy p s out) × (out ≡ replyBy p s out)

@@ -8,7 +8,7 @@ use types.Run.{OneOf, miss}
 use denote.Enum.Declared.{tagOf}
 use Rattle.lists.specs.Tests.{when_then_else_, _<?_}
 use Rattle.packets.specs.declared.packet.Packet.{Packet}
-use Rattle.packets.specs.Packet.{packetOf}
+use Rattle.packets.specs.Packet.{packetOf, contentOf}
 use Rattle.framing.specs.declared.scan.Scanned.{Scanned}
 use Rattle.verdict.specs.declared.verdict.Reason.{Reason}
 use Rattle.verdict.specs.declared.verdict.Verdict.{Verdict}
@@ -16,14 +16,15 @@ use Rattle.verdict.specs.declared.verdict.Verdict.the-variants as verdicts
 use Rattle.verdict.specs.Verdict.{verdictOf}
 use Rattle.panel.specs.declared.state.Body.{Body}
 use Rattle.panel.specs.declared.state.Panel.{Panel}
-use Rattle.carry.specs.Carry.{contentOf, carried}
+use Rattle.carry.specs.Carry.{carried}
 use Rattle.answers.specs.declared.Answer.{Answer}
 use Rattle.answers.specs.declared.Answer.the-variants.{Stray, Done, Refused}
 use Rattle.answers.specs.Answer.{numbersOf, filingOf}
 use Rattle.answers.proofs.Answer.{the-type}
-use Rattle.command.specs.declared.step.Stepped.{Stepped}
-use Rattle.command.specs.Step.{strayed, ruled, stepOf, ruling, answerTo}
-use Rattle.command.specs.Hear.{writtenLength, written, saidOf, heardBy, replyBy, refusedLength, refusedReply}
+use Rattle.command.specs.declared.hear.Stepped.{Stepped}
+use Rattle.replies.specs.Reply.{ruling, answerTo, writtenLength, written, refusedLength, refusedReply}
+use Rattle.command.specs.Step.{strayed, ruled, stepOf}
+use Rattle.command.specs.Hear.{saidOf, heardBy, replyBy}
 use Rattle.command.proofs.Hearing.{packet-heard}
 use Rattle.command.proofs.Heard.{StepSeen, stray, done, refused, steps}
 

@@ -5,15 +5,14 @@ use mathlib.Core.Bool.{true, false}
 use mathlib.Core.List.{[]}
 use Rattle.lists.specs.Tests.{when_then_else_, _<?_}
 use Rattle.packets.specs.declared.packet.Packet.{Packet}
-use Rattle.packets.specs.Packet.{packetOf}
+use Rattle.packets.specs.Packet.{packetOf, contentOf}
 use Rattle.verdict.specs.declared.verdict.Verdict.{Verdict}
 use Rattle.verdict.specs.declared.verdict.Verdict.the-variants as verdicts
 use Rattle.verdict.specs.Verdict.{verdictOf}
 use Rattle.panel.specs.declared.state.Body.{Body}
-use Rattle.answers.specs.declared.Answer.{Answer}
 use Rattle.answers.specs.declared.Answer.the-variants.{Stray, Done, Refused}
-use Rattle.command.specs.declared.step.Stepped.{Stepped}
-use Rattle.carry.specs.Carry.{contentOf, carried}
+use Rattle.command.specs.declared.hear.Stepped.{Stepped}
+use Rattle.carry.specs.Carry.{carried}
 
 -- "held bytes only, no reply"; the low six type bits are the command
 abbrev pub strayed : Body → ℕ → Stepped
@@ -29,19 +28,6 @@ ruled (verdicts.Refused reason place) b p =
 unfoldable pub stepOf : Body → Packet → Stepped
 stepOf b p = when p .kind <? 64 then ruled (verdictOf (p .kind) (contentOf p)) b p else strayed b (p .kind)
 
--- what a command is answered, by its verdict
-unfoldable pub ruling : Verdict → ℕ → Answer
-ruling verdicts.Allowed code = Done code
-ruling (verdicts.Refused reason place) code = Refused code reason place
-
--- what a packet is answered, from the packet alone
-unfoldable pub answerTo : Packet → Answer
-answerTo p = when p .kind <? 64 then ruling (verdictOf (p .kind) (contentOf p)) (p .kind) else Stray (p .kind % 64)
-
 -- what `step` promises
 abbrev pub Steps : Body → Packet → Stepped → Type 0
 Steps b p r = r ≡ stepOf b p
-
--- what `answer_to` promises
-abbrev pub AnswersTo : Packet → Answer → Type 0
-AnswersTo p r = r ≡ answerTo p

@@ -2,15 +2,23 @@
 ghost use mathlib.Core.Path.{_≡_};
 ghost use mathlib.Core.List.{[]};
 ghost use Rattle.packets.specs.Packet.{packetOf};
+ghost use Rattle.replies.specs.Reply.{writtenLength, written};
 ghost use Rattle.command.specs.Step.{Steps};
-ghost use Rattle.command.specs.Hear.{saidOf, writtenLength, written, Hears, Replies, RepliesRefused};
-use crate::step::Stepped;
+ghost use Rattle.command.specs.Hear.{saidOf, Hears};
 use answers::Answer;
 use answers::Said;
 use framing::scan::Scanned;
 use packets::packet::Packet;
 use panel::state::Body;
 use panel::state::Panel;
+
+// The body after a packet, the answer, and the reply where there is one.
+pub struct Stepped {
+    pub body: Body,
+    pub answer: Answer,
+    pub replies: bool,
+    pub reply: Packet,
+}
 
 // The unfiled number is left as it is: what a refusal does to it is the register's to say.
 pub fn hear(p: Panel, s: Scanned, reply: &mut [u8]) -> Said
@@ -47,7 +55,7 @@ fn said(mut p: Panel, s: Scanned, body: Body, answer: Answer, reply: usize) -> S
 fn step(b: Body, p: Packet) -> Stepped
     ensures { λ r. ⌜ Steps b p r ⌝ }
 {
-    let answer = crate::step::answer_to(p);
+    let answer = replies::answer_to(p);
     match answer {
         Answer::Done(_) => {
             let c = carry::carry::carry_out(b, p);
@@ -92,24 +100,5 @@ fn write(replies: bool, reply: Packet, out: &mut [u8]) -> usize
     if !replies {
         return 0;
     }
-    reply_with(reply, out)
-}
-
-// A done command's reply at the front of the buffer, and its length.
-pub fn reply_with(packet: Packet, reply: &mut [u8]) -> usize
-    ensures { λ r. ⌜ Replies packet (now (reply .entry)) r (now (reply .exit)) ⌝ }
-{
-    let content = packet.content;
-    let n = lists::at_most(packet.length, 22);
-    packets::packet::compose(reply, packet.kind, &content[..n])
-}
-
-// The error reply of a refused packet at the front of the buffer, and its length; to other answers nothing is replied here.
-pub fn refuse(answer: Answer, reply: &mut [u8]) -> usize
-    ensures { λ r. ⌜ RepliesRefused answer (now (reply .entry)) r (now (reply .exit)) ⌝ }
-{
-    match answer {
-        Answer::Refused(code, _, _) => packets::packet::compose(reply, 192 + code % 64, &[]),
-        _ => 0,
-    }
+    replies::reply_with(reply, out)
 }

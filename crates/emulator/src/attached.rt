@@ -25,7 +25,7 @@ pub fn start(font: &[u8], glass: bool) -> Attached {
     }
     Attached {
         panel,
-        register: register::run::empty(),
+        register: filing::empty(),
         picture,
         over: false,
         waiting: true,

@@ -19,7 +19,7 @@ use Rattle.panel.specs.Ranges.{inRanges}
 use Rattle.answers.specs.declared.Answer.{Answer}
 use Rattle.answers.specs.declared.Said.{Said}
 use Rattle.answers.specs.declared.Answer.the-variants.{KeyAsTold}
-use Rattle.answers.specs.Answer.{numbersOf, Check, check, decided, refusedCall}
+use Rattle.answers.specs.Answer.{numbersOf, check, decided, refusedCall}
 use Rattle.carry.specs.Carry.{withKeys}
 use Rattle.events.specs.Keys.{isOn, keyEvent, maskFor, reportCode, reportBytes, asTold, keyChecks, reports, withBody, keyAccepted, Presses, acceptedEvent, earlyChecks, early, moving, maskOf, ReportsBy}
 use Rattle.answers.proofs.Checks.{Fails, here, later, Pass, ByNumber, refused-by, accepted-by, call-passed}

@@ -38,7 +38,7 @@ fn record_bytes(r: Record) -> [u8; 7]
 pub fn read(faults: &[u8]) -> [Record; 64]
     ensures { λ r. ⌜ ReadsFaults (now (faults .entry)) r ⌝ }
 {
-    let mut records = register::run::empty();
+    let mut records = filing::empty();
     if faults.len() != 448 {
         return records;
     }

@@ -1,5 +1,5 @@
 -- What holds of filing over and above the functions' own promises.
-use mathlib.Core.Path.{_≡_, refl}
+use mathlib.Core.Path.{_≡_, refl, _∙_, ap}
 use mathlib.Core.Logic.{dite}
 use mathlib.Core.Bool.{Bool, true, false}
 use mathlib.Core.List.{List}
@@ -7,7 +7,7 @@ use Prim.Native.Nat.{ℕ, _+_, _<_}
 use native.Mathlib.Decide.{decLt}
 use native.Mathlib.Omega.{arith}
 use borrow.Author.Tests.{ltb-true, ltb-false}
-use lib.ListN.{length, getD, length-set}
+use lib.ListN.{length, getD, getD-replicate, length-set}
 use Rattle.lists.specs.Promise.{Determined}
 use Rattle.lists.specs.Tests.{when_then_else_}
 use Rattle.lists.specs.First.{firstBelow}
@@ -16,7 +16,7 @@ use Rattle.lists.proofs.Firsts.{first-at-most, found-holds, none-before}
 use Rattle.lists.proofs.Theorems.{one}
 use Rattle.filing.specs.declared.Record.{Record}
 use Rattle.filing.specs.declared.Refusal.{Refusal}
-use Rattle.filing.specs.Filing.{Files, blank, most, isFree, isWith, slot, filedAt, filed, filedIf, filedAll, total, FilesOne, Unfiles}
+use Rattle.filing.specs.Filing.{Files, blank, most, isFree, isWith, slot, filedAt, filed, filedIf, filedAll, total, FilesOne, Unfiles, Empties}
 use Rattle.filing.proofs.Counting as counting
 
 -- What i is where filing picks the record at i: known, the first in use with the key; taken, none being so, the first free one;
@@ -54,6 +54,12 @@ pub counts-add-up : (ks : List Refusal) (f : Files) → ((i : ℕ) → i < lengt
     → f .unfiled ≡ 0 → length ks < 4294967296 → total (filedAll ks f) ≡ length ks
 counts-add-up ks f free unfiled few = let e = counting.counts-free (f .register) free in omega (arith, counting.adds-up ks f (omega arith))
 
+-- The records that `empty` returns are all free.
+pub empty-is-free : (register : List Record) → Empties register → (i : ℕ) → i < length register → isFree (getD register i blank) ≡ true
+empty-is-free register e i h =
+    let l : i < 64 = omega (arith, ap length e) in
+    ap isFree (ap (λ (r : List Record). getD r i blank) e ∙ getD-replicate 64 i blank blank l)
+
 -- A call without a refusal changes neither the register nor the unfiled number.
 pub not-refused-changes-nothing : (k : Refusal) (f : Files) → filedIf false k f ≡ f
 unfolding filedIf when_then_else_
@@ -76,3 +82,6 @@ filed-in-determined k r unfiled = one _
 
 pub unfiled-more-determined : (unfiled : ℕ) → Determined (Unfiles unfiled)
 unfiled-more-determined unfiled = one _
+
+pub empty-determined : Determined Empties
+empty-determined = one _

@@ -3,7 +3,7 @@ use Prim.Native.Nat.{ℕ, _+_, min}
 use mathlib.Core.Path.{_≡_}
 use mathlib.Core.Bool.{Bool, not, _&&_}
 use mathlib.Core.List.{List, [], _∷_}
-use lib.ListN.{length, getD, set}
+use lib.ListN.{length, getD, set, replicate}
 use Rattle.lists.specs.Tests.{when_then_else_, _<?_, _=?_}
 use Rattle.lists.specs.First.{firstBelow}
 use Rattle.filing.specs.declared.Record.{Record}
@@ -87,3 +87,7 @@ FilesOne k r unfiled q = q ≡ filedIn k r unfiled
 -- what `unfiled_more` promises
 abbrev pub Unfiles : ℕ → ℕ → Type 0
 Unfiles unfiled r = r ≡ unfiledMore unfiled
+
+-- what `empty` promises
+abbrev pub Empties : List Record → Type 0
+Empties r = r ≡ replicate 64 blank

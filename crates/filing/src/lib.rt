@@ -1,5 +1,5 @@
-// What filing does with one record, and with the unfiled number: all on plain values.
-ghost use Rattle.filing.specs.Filing.{FilesOne, Unfiles};
+// A register of free records, and what filing does with one record and with the unfiled number: all on plain values.
+ghost use Rattle.filing.specs.Filing.{FilesOne, Unfiles, Empties};
 
 // A record of the register. A count of 0 makes it free, whatever its key.
 pub struct Record {
@@ -20,6 +20,18 @@ pub struct Refusal {
 pub struct Filed {
     pub fault: Record,
     pub unfiled: u32,
+}
+
+// A register of 64 free records.
+pub fn empty() -> [Record; 64]
+    ensures { λ r. ⌜ Empties r ⌝ }
+{
+    [Record {
+        command: 0,
+        reason: 0,
+        place: 0,
+        count: 0,
+    }; 64]
 }
 
 // One more refusal that no record holds.

@@ -1,6 +1,5 @@
 -- The register of faults as 448 bytes, the last table of include/naupelys.h.
 use Prim.Native.Nat.{ℕ, zero, suc, _+_, _*_}
-use mathlib.Core.Path.{_≡_}
 use mathlib.Core.List.{List, [], _∷_, _++_}
 use lib.ListN.{length, getD, replicate}
 use Rattle.lists.specs.Tests.{when_then_else_, _=?_}

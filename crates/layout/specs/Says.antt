@@ -1,13 +1,12 @@
 -- What a call says, as 16 bytes: the table "What the call says" of include/naupelys.h.
 use Prim.Native.Nat.{ℕ, _/_, _%_}
 use mathlib.Core.Path.{_≡_}
-use mathlib.Core.List.{List, [], _∷_, _++_}
+use mathlib.Core.List.{List, [], _∷_}
 use Rattle.answers.specs.declared.Answer.{Answer}
 use Rattle.answers.specs.declared.Answer.the-variants.{StateOutOfRange}
 use Rattle.answers.specs.declared.Numbers.{Numbers}
 use Rattle.answers.specs.declared.Said.{Said}
 use Rattle.answers.specs.Answer.{numbersOf}
-use Rattle.layout.specs.Words.{wordBytes}
 
 unfoldable pub saidBytes : Numbers → ℕ → ℕ → ℕ → ℕ → ℕ → List ℕ
 saidBytes n taken dropped checked reply listed =

@@ -37,7 +37,7 @@ pub fn start(font: &[u8]) -> Watch {
     let panel = s.panel;
     Watch {
         panel,
-        register: register::run::empty(),
+        register: filing::empty(),
         picture,
         over: false,
         waiting: true,

@@ -1,6 +1,6 @@
 -- Any two results that its promise allows are equal: the number, the state, every buffer and what it says.
 use Prim.Native.Nat.{ℕ}
-use mathlib.Core.Path.{_≡_, sym, _∙_}
+use mathlib.Core.Path.{sym, _∙_}
 use mathlib.Core.List.{List}
 use Rattle.lists.specs.Promise.{Determined}
 use Rattle.picture.specs.Calls.{Lent}

@@ -22,11 +22,11 @@ use Rattle.answers.specs.declared.Answer.{Answer}
 use Rattle.answers.specs.declared.Answer.the-variants.{Waiting, StateOutOfRange}
 use Rattle.answers.specs.declared.Said.{Said}
 use Rattle.answers.specs.declared.Filing.{Filing}
-use Rattle.answers.specs.Answer.{numbersOf, filingOf, Hands, decided, refusedCall}
+use Rattle.answers.specs.Answer.{numbersOf, filingOf, Hands, decided, refusedCall, withUnfiled}
 use Rattle.carry.specs.declared.carry.Carried.{Carried}
 use Rattle.carry.specs.Carry.{carried}
-use Rattle.command.specs.Step.{answerTo, AnswersTo}
-use Rattle.command.specs.Hear.{saidOf, Hears, writtenLength, refusedLength}
+use Rattle.replies.specs.Reply.{answerTo, AnswersTo, writtenLength, refusedLength}
+use Rattle.command.specs.Hear.{saidOf, Hears}
 use Rattle.command.proofs.Parts.{below, done-not-refused, not-done, is-done}
 use Rattle.answers.proofs.Checks.{Pass, answers-by-number}
 use Rattle.command.proofs.Hearing.{nothing-heard}
@@ -37,7 +37,6 @@ use Rattle.paint.proofs.Turns.{nothing-repainted}
 use Rattle.paint.proofs.Sizes.{repaints-sized}
 use Rattle.picture.proofs.LineCalls.{by-number, turned-away, turned-away-line, let-through-line, line-accepted, carried-accepted}
 use Rattle.picture.specs.Calls.{checksOf, lineChecks, turnedAway, letThrough, ChecksLine, CarriesOn, shownBefore, withListed, Lent, Lines, lineSaid, linePicture, lineList, lineReply}
-use Rattle.whole.specs.Whole.{withUnfiled}
 use Rattle.unpacking.specs.declared.state.Reading.{Reading}
 use Rattle.unpacking.specs.declared.state.Line.{Line}
 use Rattle.layout.specs.State.{bodyOf, panelOf, readable, stateWith, lineWith, holdOf, unfiledOf}
@@ -46,7 +45,7 @@ use Rattle.layout.specs.Faults.{registerOf}
 use Rattle.faults.specs.Faults.{ReadsFaults, WritesFaults}
 use Rattle.layout.proofs.WrittenBack.{state-size, line-written}
 use Rattle.layout.specs.Says.{SaysRefused, numberOf, saidBytes, bytesSaid, noState}
-use Rattle.layout.specs.Calls.{onState, stateAfter, Ends}
+use Rattle.layout.specs.Calls.{stateAfter, Ends}
 use Rattle.linecall.specs.Line.{filesBy, faultsAfter, lineFiled, LineBytes, Waits, FilesBytes, TurnsDown, CarriesOut}
 use Rattle.linecall.proofs.OnState.{a-state, off, on, kept}
 

@@ -10,13 +10,12 @@ use Rattle.filing.specs.Filing.{Files, filedIf}
 use Rattle.answers.specs.declared.Answer.{Answer}
 use Rattle.answers.specs.declared.Answer.the-variants.{Waiting}
 use Rattle.answers.specs.declared.Said.{Said}
-use Rattle.answers.specs.Answer.{numbersOf, filingOf}
+use Rattle.answers.specs.Answer.{numbersOf, filingOf, withUnfiled}
 use Rattle.carry.specs.Carry.{carried}
-use Rattle.command.specs.Hear.{writtenLength, written, refusedLength, refusedReply}
+use Rattle.replies.specs.Reply.{writtenLength, written, refusedLength, refusedReply}
 use Rattle.paint.specs.Draw.{shownBy}
 use Rattle.paint.specs.Repaint.{RepaintsSized}
 use Rattle.picture.specs.Calls.{Lent, lineSaid, linePicture, lineList, lineReply}
-use Rattle.whole.specs.Whole.{withUnfiled}
 use Rattle.layout.specs.State.{stateWith, lineWith}
 use Rattle.unpacking.specs.State.{readingOf}
 use Rattle.layout.specs.Faults.{registerOf, faultsWith}

@@ -51,7 +51,7 @@ fn turned_down(
 ) -> u8
     ensures { λ r. ⌜ TurnsDown (now (state .entry)) s answer unfiled (now (reply .entry)) (now (faults .entry)) r (now (state .exit)) (now (reply .exit)) (now (faults .exit)) (now (said .exit)) ⌝ }
 {
-    let written = command::hear::refuse(answer, reply);
+    let written = replies::refuse(answer, reply);
     let left = file(faults, answer, unfiled);
     packing::state::write_line(state, s.hold, left);
     let n = answers::told(answer);
@@ -75,7 +75,7 @@ fn carried_out(
 {
     let r = unpacking::state::read(state);
     let c = carry::carry::carry_out(r.panel.body, s.packet);
-    let written = command::hear::reply_with(c.reply, reply);
+    let written = replies::reply_with(c.reply, reply);
     let listed = paint::repaint::repaint(picture, list, r.panel.body.live, c.body.live, font);
     let hold = s.hold;
     let body = c.body;
@@ -123,7 +123,7 @@ pub fn line(
     if !s.found {
         return waited(state, s, line.unfiled, said);
     }
-    let answer = command::step::answer_to(s.packet);
+    let answer = replies::answer_to(s.packet);
     let n = answers::told(answer);
     if n.number != 3 {
         return turned_down(state, s, answer, line.unfiled, reply, faults, said);

@@ -9,10 +9,11 @@ use lib.ListN.{length, take, drop, set, getD, length-append}
 use lib.Seq.{take-at, getD-at, getD-append-add}
 use Rattle.lists.specs.Runs.{front, pasted}
 use Rattle.lists.proofs.Laws.{when-true, when-false, front-more, front-run}
-use Rattle.packets.specs.Fcs.{checksum}
+use Rattle.fcs.specs.Fcs.{checksum}
 use Rattle.packets.specs.declared.judge.Judgement.the-variants.{Packet}
 use Rattle.packets.specs.Packet.{covered, lowFirst, packetBytes, composable, composedLength, composed, Composes}
 use Rattle.packets.specs.Judge.{checksumRight, judge}
+use Rattle.packets.proofs.Bytes.{packet-length}
 use Rattle.packets.proofs.Judgements.{shown, whole}
 
 module _ (out content : List ℕ) where
@@ -78,7 +79,7 @@ module _ (kind : ℕ) (content : List ℕ) (l : length content ≤ 22) where
   right = rw (take-at (covered kind content) (lowFirst sum) (length content + 2) size, low, high) (eq-eqb sum (sum % 256 + 256 * (sum / 256)) (omega arith))
 
   room : length content + 4 ≤ length (packetBytes kind content)
-  room = omega (arith, length-append (covered kind content) (lowFirst sum))
+  room = omega (arith, packet-length kind content)
 
   pub composed-judged : judge (packetBytes kind content) ≡ Packet
   composed-judged = shown (packetBytes kind content) (whole l room right)

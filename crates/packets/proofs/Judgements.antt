@@ -13,7 +13,7 @@ use lib.Seq.{take-append-le, drop-append-le}
 use Rattle.lists.specs.Tests.{when_then_else_}
 use Rattle.packets.specs.declared.judge.Judgement.{Judgement}
 use Rattle.packets.specs.declared.judge.Judgement.the-variants.{Wait, LongLength, WrongChecksum, Packet}
-use Rattle.packets.specs.Fcs.{checksum}
+use Rattle.fcs.specs.Fcs.{checksum}
 use Rattle.packets.specs.Judge.{lengthByte, checksumRight, judge}
 
 -- what is known of the held bytes h under each judgement: one way to each of the paper's sentences

@@ -4,13 +4,9 @@ use mathlib.Core.List.{List}
 use Prim.Native.Nat.{ℕ}
 use Rattle.lists.specs.Promise.{Determined}
 use Rattle.lists.proofs.Theorems.{one, and}
-use Rattle.packets.specs.Fcs.{Sums}
 use Rattle.packets.specs.Packet.{Composes}
 use Rattle.packets.specs.Hold.{Empties}
 use Rattle.packets.specs.Judge.{Judges}
-
-pub checksum-determined : (bytes : List ℕ) → Determined (Sums bytes)
-checksum-determined bytes = one _
 
 pub empty-determined : Determined Empties
 empty-determined = one _

@@ -1,4 +1,3 @@
-pub mod Fcs
 pub mod Packet
 pub mod Hold
 pub mod Judge

@@ -3,11 +3,11 @@ use Prim.Native.Nat.{ℕ, _+_, _/_, _%_}
 use mathlib.Core.Path.{_≡_}
 use mathlib.Core.Bool.{Bool, _&&_}
 use mathlib.Core.List.{List, [], _∷_, _++_}
-use lib.ListN.{length, replicate}
+use lib.ListN.{length, replicate, take}
 use Rattle.lists.specs.Tests.{when_then_else_, _=?_, _≤?_}
 use Rattle.lists.specs.Runs.{front}
 use Rattle.packets.specs.declared.packet.Packet.{Packet}
-use Rattle.packets.specs.Fcs.{checksum}
+use Rattle.fcs.specs.Fcs.{checksum}
 
 -- what the checksum is over: "type, length and data"
 abbrev pub covered : ℕ → List ℕ → List ℕ
@@ -27,6 +27,10 @@ padded n run = front run (replicate n 0)
 -- the packet as the code has it
 abbrev pub packetOf : ℕ → List ℕ → Packet
 packetOf kind content = record { kind = kind; length = length content; content = padded 22 content }
+
+-- the data bytes of a packet as the code has it
+abbrev pub contentOf : Packet → List ℕ
+contentOf p = take (p .length) (p .content)
 
 -- a packet can be composed of at most 22 data bytes, into a buffer of 26
 abbrev pub composable : List ℕ → List ℕ → Bool

@@ -1,5 +1,4 @@
 // The unjudged bytes that are kept from call to call.
-ghost use mathlib.Core.Path.{_≡_};
 ghost use Rattle.packets.specs.Hold.{Empties};
 
 // Oldest first. The bytes behind the count are no part of what is held.

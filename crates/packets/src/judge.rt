@@ -19,7 +19,7 @@ fn checksum_right(held: &[u8], n: usize) -> bool
     ensures { λ r. ⌜ r ≡ checksumRight (now (held .entry)) ⌝ }
 {
     let end = n + 2;
-    let sum = crate::fcs::checksum(&held[..end]) as usize;
+    let sum = fcs::checksum(&held[..end]) as usize;
     let low = lists::wide(held[n + 2]);
     let high = lists::wide(held[n + 3]);
     sum == low + 256 * high

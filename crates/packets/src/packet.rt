@@ -1,5 +1,4 @@
 // A packet as values, and composed into bytes.
-ghost use mathlib.Core.Path.{_≡_};
 ghost use Rattle.packets.specs.Packet.{Composes};
 
 // Type, length and data; zeros behind the data.
@@ -24,7 +23,7 @@ pub fn compose(out: &mut [u8], kind: u8, content: &[u8]) -> usize
     out[0] = kind;
     out[1] = n as u8;
     lists::paste(out, 2, content);
-    let sum = crate::fcs::checksum(&out[..n + 2]);
+    let sum = fcs::checksum(&out[..n + 2]);
     out[n + 2] = (sum % 256) as u8;
     out[n + 3] = (sum / 256) as u8;
     n + 4

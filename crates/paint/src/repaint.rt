@@ -5,7 +5,7 @@ ghost use Prim.Native.Nat.{_<_, _≤_};
 ghost use lib.ListN.{length};
 ghost use Rattle.lists.specs.Tests.{_=?_, _≤?_};
 ghost use Rattle.paint.specs.Draw.{cellDrawn, drawn, shown, shownBy};
-ghost use Rattle.paint.specs.Repaint.{alike, RepaintsCell, Repaints, RepaintsSized, DrawsAll};
+ghost use Rattle.paint.specs.Repaint.{alike, RepaintsCell, RepaintsSized, DrawsAll};
 use crate::draw::draw;
 use crate::draw::put_cell;
 use panel::state::Settings;

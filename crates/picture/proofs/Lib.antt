@@ -1,4 +1,2 @@
-pub mod Fronts
 pub mod LineCalls
-pub mod Replies
 pub mod Theorems

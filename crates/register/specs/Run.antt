@@ -3,11 +3,11 @@ use Prim.Native.Nat.{ℕ, _+_}
 use mathlib.Core.Path.{_≡_}
 use mathlib.Core.Bool.{Bool}
 use mathlib.Core.List.{List}
-use lib.ListN.{length, replicate}
+use lib.ListN.{length}
 use Rattle.lists.specs.Tests.{when_then_else_, _<?_}
 use Rattle.filing.specs.declared.Record.{Record}
 use Rattle.filing.specs.declared.Refusal.{Refusal}
-use Rattle.filing.specs.Filing.{blank, isFree, isWith, firstRecord, filedAt, filedIf}
+use Rattle.filing.specs.Filing.{isFree, isWith, firstRecord, filedAt, filedIf}
 use Rattle.register.specs.declared.search.Seen.{Seen}
 use Rattle.register.specs.declared.run.FiledIn.{FiledIn}
 
@@ -46,7 +46,3 @@ abbrev pub FilesBack : List Record → Bool → Refusal → ℕ → FiledIn → 
 FilesBack register refused k unfiled r =
     let f = filedIf refused k (record { register = register; unfiled = unfiled }) in
     r ≡ record { register = f .register; unfiled = f .unfiled }
-
--- what `empty` promises
-abbrev pub Empties : List Record → Type 0
-Empties r = r ≡ replicate 64 blank

@@ -1,7 +1,7 @@
 // The functions over the run of records itself.
 ghost use mathlib.Core.Path.{_≡_};
 ghost use Rattle.filing.specs.Filing.{slot};
-ghost use Rattle.register.specs.Run.{Counts, FilesAt, FilesIn, FilesBack, Empties};
+ghost use Rattle.register.specs.Run.{Counts, FilesAt, FilesIn, FilesBack};
 use crate::search::Seen;
 use crate::search::seen_more;
 use crate::search::slot_of;
@@ -71,16 +71,4 @@ pub fn file_in(register: [Record; 64], refused: bool, k: Refusal, unfiled: u32) 
         register: records,
         unfiled: left,
     }
-}
-
-// A run of 64 free records.
-pub fn empty() -> [Record; 64]
-    ensures { λ r. ⌜ Empties r ⌝ }
-{
-    [Record {
-        command: 0,
-        reason: 0,
-        place: 0,
-        count: 0,
-    }; 64]
 }

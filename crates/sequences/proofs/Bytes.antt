@@ -7,7 +7,6 @@ use native.Mathlib.Omega.{arith}
 use borrow.Author.Tests.{le-ltb, ne-eqb}
 use lib.ListN.{length, drop, length-take}
 use Rattle.lists.proofs.Laws.{when-false}
-use Rattle.panel.specs.declared.state.Panel.{Panel}
 use Rattle.answers.specs.declared.Said.{Said}
 use Rattle.events.specs.Keys.{keySaid}
 use Rattle.events.specs.Pins.{pinSaid}

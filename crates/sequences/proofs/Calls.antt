@@ -16,7 +16,7 @@ use Rattle.answers.specs.Answer.{numbersOf, refusedCall}
 use Rattle.paint.specs.Draw.{cellDrawn, shownBy, placeOf}
 use Rattle.paint.specs.Repaint.{ListedIn}
 use Rattle.picture.specs.Calls.{Lent, lineChecks, heard, altered, withListed, shownBefore, lineSaid, Lines}
-use Rattle.picture.proofs.Theorems as pictures
+use Rattle.sequences.proofs.Lists as lists
 use Rattle.whole.specs.Whole.{LineCall}
 use Rattle.sequences.proofs.Outcomes.{nothing-changed, body-kept, unfiled-kept, heard-counts}
 
@@ -56,19 +56,19 @@ module _ (p : Panel) (l : Lent) (register : List Record) (r : Said) (picture′ 
 
     -- An accepted call's list is rising, so that each cell stands in it once,
     pub list-rises : (i j : ℕ) → i < j → j < r .listed → getD list′ i 0 < getD list′ j 0
-    list-rises i j h g = pictures.list-rises p l (lineSaid p l) picture′ list′ reply′ without below i j h (rw (called .0) at g)
+    list-rises i j h g = lists.rises p l (lineSaid p l) picture′ list′ reply′ without below i j h (rw (called .0) at g)
 
     -- and it holds exactly the cells whose drawing before and after the call differ.
     pub list-is-the-change : (cell : ℕ) → cell < 80 → ListedIn list′ (r .listed) cell ↔ (cellDrawn (shownBefore p) (l .font) cell ≢ cellDrawn (shownBy (r .panel .body .live)) (l .font) cell)
-    list-is-the-change cell h = rw (called .0) (pictures.list-is-the-change p l (lineSaid p l) picture′ list′ reply′ without below cell h)
+    list-is-the-change cell h = rw (called .0) (lists.exactly p l (lineSaid p l) picture′ list′ reply′ without below cell h)
 
     -- Bytes of cells that are not listed are as they came,
     pub no-other-byte : (cell k : ℕ) → cell < 80 → k < 8 → (ListedIn list′ (r .listed) cell → ⊥) → getD picture′ (placeOf cell k) 0 ≡ getD (l .picture) (placeOf cell k) 0
-    no-other-byte cell k h g n = pictures.no-other-byte p l (lineSaid p l) picture′ list′ reply′ without below cell k h g (rw (called .0) at n)
+    no-other-byte cell k h g n = lists.unlisted-stay p l (lineSaid p l) picture′ list′ reply′ without below cell k h g (rw (called .0) at n)
 
     -- and so are those of the list behind its end and of the reply behind its end.
     pub list-behind : (i : ℕ) → r .listed ≤ i → getD list′ i 0 ≡ getD (l .list) i 0
-    list-behind i h = pictures.list-behind p l (lineSaid p l) picture′ list′ reply′ without below i (rw (called .0) at h)
+    list-behind i h = lists.list-stays p l (lineSaid p l) picture′ list′ reply′ without below i (rw (called .0) at h)
 
     pub reply-behind : (i : ℕ) → r .reply ≤ i → getD reply′ i 0 ≡ getD (l .reply) i 0
-    reply-behind i h = pictures.reply-behind p l (lineSaid p l) picture′ list′ reply′ without below i (rw (called .0) at h)
+    reply-behind i h = lists.reply-stays p l (lineSaid p l) picture′ list′ reply′ without below i (rw (called .0) at h)

@@ -9,16 +9,16 @@ use lib.ListN.{length, take, length-take}
 use Rattle.lists.specs.Tests.{_=?_}
 use Rattle.lists.proofs.Laws.{when-either}
 use Rattle.packets.specs.declared.packet.Packet.{Packet}
-use Rattle.packets.specs.Packet.{composedLength}
+use Rattle.packets.specs.Packet.{composedLength, contentOf}
 use Rattle.packets.specs.Hold.{held}
 use Rattle.framing.specs.Scan.{scannedOf}
 use Rattle.framing.proofs.Bounds as bounds
 use Rattle.panel.specs.declared.state.Panel.{Panel}
-use Rattle.carry.specs.Carry.{contentOf}
 use Rattle.answers.specs.declared.Answer.{Answer}
 use Rattle.answers.specs.declared.Said.{Said}
 use Rattle.answers.specs.Answer.{numbersOf, refusedCall}
-use Rattle.command.specs.Hear.{writtenLength, scannedBy, heardBy}
+use Rattle.replies.specs.Reply.{writtenLength}
+use Rattle.command.specs.Hear.{scannedBy, heardBy}
 use Rattle.events.specs.Keys.{keyChecks, keyAccepted, keySaid, reports}
 use Rattle.events.specs.Pins.{pinChecks, pinAccepted, pinSaid}
 use Rattle.answers.proofs.Checks.{Pass, either-way, refused-by, accepted-by}

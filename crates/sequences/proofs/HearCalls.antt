@@ -10,19 +10,20 @@ use Rattle.lists.specs.Runs.{front}
 use Rattle.lists.proofs.Laws.{when-true}
 use Rattle.packets.specs.declared.packet.Packet.{Packet}
 use Rattle.packets.specs.declared.hold.Hold.{Hold}
-use Rattle.packets.specs.Packet.{packetBytes, composedLength, composed}
+use Rattle.packets.specs.Packet.{packetBytes, composedLength, composed, contentOf}
 use Rattle.packets.proofs.Composing.{fitting}
 use Rattle.framing.proofs.Theorems.{held-at-most-25}
 use Rattle.panel.specs.declared.state.Body.{Body}
 use Rattle.panel.specs.declared.state.Panel.{Panel}
 use Rattle.panel.specs.Ranges.{inRanges}
-use Rattle.carry.specs.Carry.{contentOf, carried}
+use Rattle.carry.specs.Carry.{carried}
 use Rattle.verdict.specs.declared.verdict.Reason.{Reason}
 use Rattle.answers.specs.declared.Answer.the-variants.{Refused}
 use Rattle.answers.specs.declared.Said.{Said}
-use Rattle.command.specs.declared.step.Stepped.{Stepped}
+use Rattle.command.specs.declared.hear.Stepped.{Stepped}
 use Rattle.answers.specs.Answer.{numbersOf}
-use Rattle.command.specs.Hear.{scannedBy, writtenLength, written, Hears}
+use Rattle.replies.specs.Reply.{writtenLength, written}
+use Rattle.command.specs.Hear.{scannedBy, Hears}
 use Rattle.sequences.proofs.Effects.{BodyInRange, effect-in-range}
 use Rattle.command.proofs.Heard.{StepSeen, stray, done, refused, Heard, nothing, packet, see}
 use Rattle.panel.proofs.InRange.{panel-parts, panel-whole}

@@ -2,6 +2,7 @@ mod Allowed
 mod Effects
 mod HearCalls
 pub mod Hears
+mod Lists
 mod Outcomes
 pub mod Calls
 mod Counts

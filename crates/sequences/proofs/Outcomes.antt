@@ -19,17 +19,19 @@ use Rattle.filing.specs.declared.Record.{Record}
 use Rattle.filing.specs.Filing.{Files, filedIf}
 use Rattle.answers.specs.declared.Answer.{Answer}
 use Rattle.answers.specs.declared.Said.{Said}
-use Rattle.command.specs.declared.step.Stepped.{Stepped}
-use Rattle.answers.specs.Answer.{numbersOf, filingOf, refusedCall}
+use Rattle.command.specs.declared.hear.Stepped.{Stepped}
+use Rattle.answers.specs.Answer.{numbersOf, filingOf, refusedCall, withUnfiled}
 use Rattle.command.specs.Step.{ruled, stepOf}
-use Rattle.command.specs.Hear.{scannedBy, written, heardBy, replyBy}
+use Rattle.replies.specs.Reply.{written}
+use Rattle.command.specs.Hear.{scannedBy, heardBy, replyBy}
 use Rattle.answers.proofs.Checks.{Pass, refused-by, accepted-by, call-refused, call-passed}
 use Rattle.paint.specs.Draw.{shownBy}
 use Rattle.paint.specs.Repaint.{Repaints}
 use Rattle.picture.specs.Calls.{Lent, lineChecks, heard, shownBefore, shownAfter, altered, withListed, lineSaid}
 use Rattle.paint.proofs.Turns.{nothing-repainted}
-use Rattle.picture.proofs.LineCalls.{by-number, heard-below}
-use Rattle.whole.specs.Whole.{withUnfiled, LineCall}
+use Rattle.picture.proofs.LineCalls.{by-number}
+use Rattle.sequences.proofs.Lists.{heard-below}
+use Rattle.whole.specs.Whole.{LineCall}
 
 abbrev pub number : Answer → ℕ
 number a = numbersOf a .number

@@ -4,17 +4,16 @@ use mathlib.Core.Path.{_≡_, refl, sym, _∙_}
 use mathlib.Core.Bool.{Bool, true, false}
 use mathlib.Core.List.{List, [], _∷_, _++_, map}
 use native.Mathlib.Omega.{arith}
-use lib.ListN.{length, take, drop, length-append}
+use lib.ListN.{length, take, drop}
 use lib.Seq.{take-at}
 use borrow.Author.Tests.{eq-eqb}
 use Rattle.lists.specs.Tests.{when_then_else_, _≤?_}
 use Rattle.packets.specs.declared.packet.Packet.{Packet}
-use Rattle.packets.specs.Packet.{covered, lowFirst, packetBytes, composedLength, composed}
-use Rattle.packets.specs.Fcs.{checksum}
+use Rattle.packets.specs.Packet.{packetBytes, composedLength, composed, contentOf}
+use Rattle.packets.proofs.Bytes.{packet-length}
 use Rattle.panel.specs.declared.state.Body.{Body}
-use Rattle.carry.specs.Carry.{contentOf}
 use Rattle.command.specs.Step.{stepOf}
-use Rattle.command.specs.Hear.{writtenLength, written}
+use Rattle.replies.specs.Reply.{writtenLength, written}
 use Rattle.sequences.specs.Story.{Other, Entry, packet, other, replied, Place, after, places}
 use Rattle.sequences.proofs.OtherCalls.{saidBy, leftBy, standing, blank}
 
@@ -35,11 +34,8 @@ written-bytes true reply out n = rw (eq-eqb (length out) 26 n) (go (length (cont
     bytes : List ℕ
     bytes = packetBytes (reply .kind) (contentOf reply)
 
-    size : length bytes ≡ length (contentOf reply) + 4
-    size = omega (arith, length-append (contentOf reply) (lowFirst (checksum (covered (reply .kind) (contentOf reply)))))
-
     go : (t : Bool) → take (when t then length (contentOf reply) + 4 else 0) (when t then bytes ++ drop (length bytes) out else out) ≡ (when t then bytes else [])
-    go true = take-at bytes (drop (length bytes) out) (length (contentOf reply) + 4) size
+    go true = take-at bytes (drop (length bytes) out) (length (contentOf reply) + 4) (packet-length (reply .kind) (contentOf reply))
     go false = refl
 
 abbrev pub entryOf : Body → Item → Entry

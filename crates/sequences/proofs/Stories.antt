@@ -24,8 +24,8 @@ use Rattle.filing.proofs.Theorems.{length-filed}
 use Rattle.answers.specs.declared.Answer.{Answer}
 use Rattle.answers.specs.declared.Answer.the-variants.{Waiting}
 use Rattle.answers.specs.declared.Said.{Said}
-use Rattle.command.specs.declared.step.Stepped.{Stepped}
-use Rattle.answers.specs.Answer.{numbersOf, filingOf}
+use Rattle.command.specs.declared.hear.Stepped.{Stepped}
+use Rattle.answers.specs.Answer.{numbersOf, filingOf, withUnfiled}
 use Rattle.events.specs.Keys.{withBody}
 use Rattle.command.specs.Hear.{scannedBy, heardBy, replyBy}
 use Rattle.answers.proofs.Checks.{Pass, accepted-by}
@@ -34,8 +34,8 @@ use Rattle.command.proofs.Heard.{StepSeen, Heard}
 use Rattle.sequences.proofs.HearCalls.{hear-in-range}
 use Rattle.picture.specs.Calls.{Lent, lent, lineChecks, altered, withListed, lineSaid, linePicture, lineList, lineReply}
 use Rattle.paint.proofs.Changes.{length-painted}
-use Rattle.picture.proofs.LineCalls.{heard-below}
-use Rattle.whole.specs.Whole.{filesAfter, withUnfiled}
+use Rattle.sequences.proofs.Lists.{heard-below}
+use Rattle.whole.specs.Whole.{filesAfter}
 use Rattle.sequences.proofs.Outcomes.{passed, said-accepted}
 use Rattle.sequences.specs.Run.{World, filesOf}
 use Rattle.sequences.specs.Story.{Other, Answers, Entry, packet, other, replied, noted, LineHears, Others, none, one, Story, last, line, call, places, withPanel}

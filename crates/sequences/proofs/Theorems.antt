@@ -13,13 +13,13 @@ use Rattle.filing.specs.declared.Record.{Record}
 use Rattle.filing.specs.Filing.{counts}
 use Rattle.framing.proofs.Theorems as framing
 use Rattle.answers.specs.declared.Said.{Said}
-use Rattle.answers.specs.Answer.{numbersOf}
+use Rattle.answers.specs.Answer.{numbersOf, withUnfiled}
 use Rattle.events.specs.Keys.{keySaid, keyReply}
 use Rattle.events.specs.Pins.{pinSaid}
 use Rattle.paint.specs.Draw.{shownBy, drawn}
 use Rattle.picture.specs.Calls.{PowersOn, lent, lineSaid, linePicture, lineList, lineReply}
-use Rattle.picture.proofs.LineCalls.{power-draws}
-use Rattle.whole.specs.Whole.{filesAfter, withUnfiled}
+use Rattle.sequences.proofs.Lists.{power-draws}
+use Rattle.whole.specs.Whole.{filesAfter}
 use Rattle.sequences.specs.Run.{Call, line, key, pin, World, refusedIn, Runs, done, more, Afresh}
 use Rattle.sequences.specs.Story.{Entry, Story, places}
 use Rattle.sequences.specs.Worked.{told, piecesOf, expectedOf, table}

@@ -4,7 +4,7 @@ use mathlib.Core.List.{map}
 use Rattle.lists.specs.Tests.{when_then_else_, all}
 use Rattle.lists.specs.First.{firstBelow}
 use Rattle.lists.specs.Runs.{pasted}
-use Rattle.packets.specs.Fcs.{afterBit, afterByte}
+use Rattle.fcs.specs.Fcs.{afterBit, afterByte}
 use Rattle.packets.specs.Packet.{composedLength, composed}
 use Rattle.packets.specs.Judge.{checksumRight, judge}
 use Rattle.framing.specs.Scan.{settleAt, settle, goOn, scan, scannedOf}
@@ -16,7 +16,8 @@ use Rattle.panel.specs.Ranges.{numbersInRange, settingsInRange, keysInRange, in
 use Rattle.carry.specs.Carry.{effect, memory, edges, replyData, carried}
 use Rattle.answers.specs.Answer.{numbersOf, decided}
 use Rattle.command.specs.Step.{ruled, stepOf}
-use Rattle.command.specs.Hear.{writtenLength, written, heardBy, replyBy}
+use Rattle.replies.specs.Reply.{writtenLength, written}
+use Rattle.command.specs.Hear.{heardBy, replyBy}
 use Rattle.paint.specs.Draw.{sourceOf, drawnFrom, codeDrawn}
 use Rattle.paint.specs.Repaint.{same, changedBelow}
 use Rattle.sequences.specs.Worked.{told, piecesOf, expectedOf, table}

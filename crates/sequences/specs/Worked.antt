@@ -1,11 +1,10 @@
 -- Document 01's worked cases P1 to P10: from power-on with the program's font, the pieces given to line calls one after the
 -- other, and what each call says.
 use Prim.Native.Nat.{ℕ, zero, suc, _/_, _%_}
-use mathlib.Core.List.{List, [], _∷_, map}
+use mathlib.Core.List.{List, [], _∷_}
 use lib.ListN.{take, replicate}
 use Rattle.packets.specs.Hold.{held}
 use Rattle.panel.specs.declared.state.Panel.{Panel}
-use Rattle.panel.specs.State.{poweredOn}
 use Rattle.answers.specs.Answer.{numbersOf}
 use Rattle.picture.specs.Calls.{lent, lineSaid, lineList, lineReply}
 

@@ -10,7 +10,8 @@ use Rattle.answers.specs.declared.Said.{Said}
 use Rattle.answers.specs.declared.Filing.{Filing}
 use Rattle.picture.specs.Calls.{Lent, lineSaid}
 use Rattle.whole.specs.declared.line.Heard.{Heard}
-use Rattle.whole.specs.Whole.{filesAfter, withUnfiled, HearsAll, LineCall}
+use Rattle.answers.specs.Answer.{withUnfiled}
+use Rattle.whole.specs.Whole.{filesAfter, HearsAll, LineCall}
 
 pub put-together : (p : Panel) (l : Lent) (register : List Record) {h : Heard} {u : ℕ} {r : Said} {picture′ list′ reply′ : List ℕ} {register′ : List Record} → HearsAll p l h picture′ list′ reply′
     → FilesIn register (h .filing .refused) (h .filing .key) (h .said .panel .unfiled) u register′ → r ≡ withUnfiled (h .said) u → LineCall p l register r picture′ list′ reply′ register′

@@ -6,7 +6,7 @@ use Rattle.panel.specs.declared.state.Panel.{Panel}
 use Rattle.filing.specs.declared.Record.{Record}
 use Rattle.filing.specs.Filing.{Files, filedIf}
 use Rattle.answers.specs.declared.Said.{Said}
-use Rattle.answers.specs.Answer.{filingOf}
+use Rattle.answers.specs.Answer.{filingOf, withUnfiled}
 use Rattle.picture.specs.Calls.{Lent, lineSaid, linePicture, lineList, lineReply, Lines}
 use Rattle.whole.specs.declared.line.Heard.{Heard}
 use Rattle.whole.specs.declared.line.Called.{Called}
@@ -15,18 +15,6 @@ use Rattle.whole.specs.declared.line.Called.{Called}
 abbrev pub filesAfter : Said → List Record → Files
 filesAfter s register =
     filedIf (filingOf (s .answer) .refused) (filingOf (s .answer) .key) (record { register = register; unfiled = s .panel .unfiled })
-
-abbrev pub withUnfiled : Said → ℕ → Said
-withUnfiled s n =
-    record {
-      panel = record { hold = s .panel .hold; body = s .panel .body; unfiled = n };
-      answer = s .answer;
-      taken = s .taken;
-      dropped = s .dropped;
-      checked = s .checked;
-      reply = s .reply;
-      listed = s .listed;
-    }
 
 -- what `hear` promises of its result and of the three lent buffers
 abbrev pub HearsAll : Panel → Lent → Heard → List ℕ → List ℕ → List ℕ → Type 0

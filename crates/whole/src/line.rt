@@ -2,7 +2,8 @@
 ghost use mathlib.Core.Path.{_≡_};
 ghost use lib.ListN.{length};
 ghost use Rattle.picture.specs.Calls.{lent};
-ghost use Rattle.whole.specs.Whole.{HearsAll, withUnfiled, LineCall, LineCallIn};
+ghost use Rattle.answers.specs.Answer.{withUnfiled};
+ghost use Rattle.whole.specs.Whole.{HearsAll, LineCall, LineCallIn};
 use answers::Filing;
 use answers::Said;
 use filing::Record;

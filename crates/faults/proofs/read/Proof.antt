@@ -1,11 +1,11 @@
-use Prim.Native.Nat.{ℕ, _≤_, _-_}
-use mathlib.Core.Path.{_≡_, refl, sym, _∙_, ap}
-use mathlib.Core.List.{List, _++_}
+use Prim.Native.Nat.{_≤_, _-_}
+use mathlib.Core.Path.{_≡_, sym, _∙_, ap}
+use mathlib.Core.List.{_++_}
 use lib.ListN.{length, drop, length-replicate}
 use native.Mathlib.Omega.{arith}
 use borrow.Author.Needs.{needs}
 use borrow.Author.Tests.{eq-eqb, ne-eqb}
-use Rattle.lists.proofs.Laws.{when-true, when-false, whole-front}
+use Rattle.lists.proofs.Laws.{when-true, when-false}
 use Rattle.filing.specs.Filing.{blank}
 use Rattle.layout.specs.Faults.{recordsOf, registerOf}
 use Rattle.layout.proofs.Records.{read-turn, read-all}
@@ -14,7 +14,7 @@ use Rattle.faults.proofs.read.Tie as tie
 use Rattle.faults.proofs.read.Reads as reads
 use Rattle.faults.proofs.read.Lts as lts
 use Rattle.faults.proofs.record_at.Reads as record-at-reads
-use Rattle.register.proofs.run.empty.Reads as empty-reads
+use Rattle.filing.proofs.empty.Reads as empty-reads
 
 abbrev Inv-loop : tie.InvT-loop
 Inv-loop faults records₀ i₀ records i = (i ≤ 64) × (records ≡ recordsOf i faults ++ drop i records₀)

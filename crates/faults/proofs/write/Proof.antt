@@ -1,13 +1,11 @@
-use Prim.Native.Nat.{ℕ, _≤_, _-_}
-use mathlib.Core.Path.{_≡_, refl, sym, _∙_, ap}
-use mathlib.Core.List.{List, _++_}
-use lib.ListN.{length, drop, length-replicate}
+use Prim.Native.Nat.{_≤_, _-_}
+use mathlib.Core.Path.{_≡_, sym, _∙_}
+use lib.ListN.{length}
 use native.Mathlib.Omega.{arith}
 use borrow.Author.Needs.{needs}
 use borrow.Author.Tests.{eq-eqb, ne-eqb}
 use Rattle.lists.proofs.Laws.{when-true, when-false, whole-front}
-use Rattle.filing.specs.Filing.{blank}
-use Rattle.lists.specs.Runs.{front, pasted}
+use Rattle.lists.specs.Runs.{front}
 use Rattle.layout.specs.Faults.{recordsBytes, faultsWith}
 use Rattle.layout.proofs.Records.{write-turn, length-bytes}
 use Rattle.faults.proofs.write.Statement.{statement}

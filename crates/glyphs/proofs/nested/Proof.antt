@@ -1,4 +1,4 @@
-use Prim.Native.Nat.{ℕ, _≤_, _-_}
+use Prim.Native.Nat.{_≤_, _-_}
 use mathlib.Core.Path.{_≡_, refl}
 use Rattle.glyphs.proofs.Flat.{nestedFirst, nested-turn, nested-all}
 use native.Mathlib.Omega.{arith}

@@ -1,4 +1,3 @@
-use native.Mathlib.Omega.{arith}
 use borrow.Author.Needs.{needs}
 use Rattle.line.proofs.read_all.Statement.{statement}
 use Rattle.line.proofs.read_all.Tie as tie

@@ -5,7 +5,7 @@ use Rattle.answers.specs.declared.Numbers.{Numbers}
 use Rattle.answers.specs.Answer.{numbersOf}
 use Rattle.carry.specs.declared.carry.Carried.{Carried}
 use Rattle.carry.specs.Carry.{carried}
-use Rattle.command.specs.Hear.{writtenLength, written}
+use Rattle.replies.specs.Reply.{writtenLength, written}
 use Rattle.layout.specs.State.{stateWith}
 use Rattle.layout.specs.Says.{saidBytes}
 use Rattle.unpacking.specs.declared.state.Reading.{Reading}
@@ -18,7 +18,7 @@ use Rattle.linecall.proofs.carried_out.Reads as reads
 use Rattle.linecall.proofs.carried_out.Lts as lts
 use Rattle.answers.proofs.told.Reads as told-reads
 use Rattle.carry.proofs.carry.carry_out.Reads as carry-out-reads
-use Rattle.command.proofs.hear.reply_with.Reads as reply-with-reads
+use Rattle.replies.proofs.reply_with.Reads as reply-with-reads
 use Rattle.layout.proofs.says.write.Reads as says-write-reads
 use Rattle.packing.proofs.state.write.Reads as state-write-reads
 use Rattle.paint.proofs.repaint.repaint.Reads as repaint-reads

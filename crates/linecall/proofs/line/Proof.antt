@@ -13,7 +13,7 @@ use Rattle.linecall.proofs.line.Tie as tie
 use Rattle.linecall.proofs.line.Reads as reads
 use Rattle.linecall.proofs.line.Lts as lts
 use Rattle.answers.proofs.told.Reads as told-reads
-use Rattle.command.proofs.step.answer_to.Reads as answer-to-reads
+use Rattle.replies.proofs.answer_to.Reads as answer-to-reads
 use Rattle.framing.proofs.scan.scan.Reads as scan-reads
 use Rattle.linecall.proofs.carried_out.Reads as carried-out-reads
 use Rattle.linecall.proofs.records_in.Reads as records-in-reads

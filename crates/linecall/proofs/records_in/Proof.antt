@@ -1,7 +1,7 @@
 use Rattle.linecall.specs.Line.{recordsIn}
 use borrow.Author.Tests.{eq-eqb, ne-eqb}
 use Rattle.lists.proofs.Laws.{when-true, when-false}
-use mathlib.Core.Path.{_≡_, refl, sym, _∙_, ap}
+use mathlib.Core.Path.{sym}
 use Rattle.linecall.proofs.records_in.Statement.{statement}
 use Rattle.linecall.proofs.records_in.Tie as tie
 use Rattle.linecall.proofs.records_in.Reads as reads

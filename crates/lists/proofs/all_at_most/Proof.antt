@@ -4,7 +4,6 @@ use mathlib.Core.Bool.{_&&_}
 use lib.ListN.{length, drop}
 use Rattle.lists.specs.Tests.{_≤?_, allAtMost}
 use Rattle.lists.proofs.Laws.{all-turn, all-ended}
-use native.Mathlib.Omega.{arith}
 use borrow.Author.Needs.{needs}
 use Rattle.lists.proofs.all_at_most.Statement.{statement}
 use Rattle.lists.proofs.all_at_most.Tie as tie

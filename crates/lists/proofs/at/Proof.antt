@@ -1,6 +1,5 @@
 use mathlib.Core.Path.{sym}
 use lib.ListN.{List·getD-eq-default}
-use native.Mathlib.Omega.{arith}
 use borrow.Author.Needs.{needs}
 use Rattle.lists.proofs.at.Statement.{statement}
 use Rattle.lists.proofs.at.Tie as tie

@@ -1,6 +1,6 @@
 use Rattle.layout.specs.Says.{saidBytes}
 use Rattle.answers.specs.declared.Numbers.{Numbers}
-use mathlib.Core.Path.{_≡_, refl, sym, _∙_, ap}
+use mathlib.Core.Path.{_∙_, ap}
 use borrow.Author.Needs.{needs}
 use Rattle.naupelys.proofs.told.Statement.{statement}
 use Rattle.naupelys.proofs.told.Tie as tie

@@ -1,5 +1,5 @@
 use Prim.Native.Nat.{ℕ}
-use mathlib.Core.Path.{_≡_, _∙_, ap}
+use mathlib.Core.Path.{_≡_}
 use lib.ListN.{length, length-take}
 use borrow.Author.Needs.{length-unmapped}
 use Rattle.lists.proofs.Laws.{take-limited}

@@ -1,4 +1,3 @@
-use native.Mathlib.Omega.{arith}
 use borrow.Author.Needs.{needs}
 use Rattle.carry.proofs.effect.set_contrast.Statement.{statement}
 use Rattle.carry.proofs.effect.set_contrast.Tie as tie

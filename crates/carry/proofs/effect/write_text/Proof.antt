@@ -1,5 +1,4 @@
 use Rattle.lists.proofs.Laws.{all-behind, drop-most}
-use native.Mathlib.Omega.{arith}
 use borrow.Author.Needs.{needs}
 use Rattle.carry.proofs.effect.write_text.Statement.{statement}
 use Rattle.carry.proofs.effect.write_text.Tie as tie

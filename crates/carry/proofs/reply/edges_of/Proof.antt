@@ -1,5 +1,4 @@
 use Rattle.carry.specs.Carry.{edges}
-use native.Mathlib.Omega.{arith}
 use borrow.Author.Needs.{needs}
 use Rattle.carry.proofs.reply.edges_of.Statement.{statement}
 use Rattle.carry.proofs.reply.edges_of.Tie as tie

@@ -1,4 +1,3 @@
-use native.Mathlib.Omega.{arith}
 use borrow.Author.Needs.{needs}
 use Rattle.carry.proofs.reply.pin_packet.Statement.{statement}
 use Rattle.carry.proofs.reply.pin_packet.Tie as tie

@@ -2,7 +2,6 @@ use mathlib.Core.Path.{_∙_}
 use borrow.Author.Tests.{lt-ltb, le-ltb}
 use Rattle.lists.proofs.Laws.{when-true, when-false}
 use Rattle.carry.specs.Carry.{memory}
-use native.Mathlib.Omega.{arith}
 use borrow.Author.Needs.{needs}
 use Rattle.carry.proofs.reply.read_memory.Statement.{statement}
 use Rattle.carry.proofs.reply.read_memory.Tie as tie

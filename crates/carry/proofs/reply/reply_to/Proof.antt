@@ -8,7 +8,6 @@ use Rattle.lists.proofs.Laws.{when-either}
 use borrow.Author.Tests.{ne-eqb}
 use Rattle.lists.specs.Tests.{when_then_else_}
 use Rattle.carry.specs.Carry.{memory, replyData}
-use native.Mathlib.Omega.{arith}
 use borrow.Author.Needs.{needs}
 use Rattle.carry.proofs.reply.reply_to.Statement.{statement}
 use Rattle.carry.proofs.reply.reply_to.Tie as tie

@@ -1,13 +1,13 @@
 use mathlib.Core.Path.{sym}
 use borrow.Author.Tests.{not-true, not-false}
 use Rattle.lists.proofs.Laws.{when-false}
-use Rattle.command.specs.Hear.{writtenLength, written}
+use Rattle.replies.specs.Reply.{writtenLength, written}
 use borrow.Author.Needs.{needs}
 use Rattle.command.proofs.hear.write.Statement.{statement}
 use Rattle.command.proofs.hear.write.Tie as tie
 use Rattle.command.proofs.hear.write.Reads as reads
 use Rattle.command.proofs.hear.write.Lts as lts
-use Rattle.command.proofs.hear.reply_with.Reads as reply-with-reads
+use Rattle.replies.proofs.reply_with.Reads as reply-with-reads
 
 returns : tie.Need-returns
 unfolding writtenLength written

@@ -1,5 +1,4 @@
 use Prim.Native.Nat.{_≤_, _-_}
-use native.Mathlib.Omega.{arith}
 use borrow.Author.Needs.{needs}
 use Rattle.emulator.proofs.glass.strokes.Statement.{statement}
 use Rattle.emulator.proofs.glass.strokes.Tie as tie

@@ -1,7 +1,5 @@
 use borrow.Author.Needs.{needs}
-use borrow.Author.Tests.{leb-true}
 use Rattle.answers.proofs.Checks.{Pass}
-use Rattle.panel.proofs.InRange.{panel-parts, keys-parts}
 use Rattle.events.specs.Keys.{keyChecks}
 use Rattle.events.proofs.KeyCalls.{key-turned-away, key-let-through, key-number, keys-before, key-accepted}
 use Rattle.events.proofs.keys.key.Statement.{statement}

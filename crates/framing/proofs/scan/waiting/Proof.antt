@@ -1,5 +1,4 @@
 use Rattle.framing.proofs.Endings.{scanned-waiting}
-use native.Mathlib.Omega.{arith}
 use borrow.Author.Needs.{needs}
 use Rattle.framing.proofs.scan.waiting.Statement.{statement}
 use Rattle.framing.proofs.scan.waiting.Tie as tie

@@ -1,5 +1,4 @@
 use Prim.Native.Nat.{_≤_, _-_}
-use native.Mathlib.Omega.{arith}
 use borrow.Author.Needs.{needs}
 use Rattle.line.proofs.watch.program_font.Statement.{statement}
 use Rattle.line.proofs.watch.program_font.Tie as tie

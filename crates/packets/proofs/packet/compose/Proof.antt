@@ -7,7 +7,7 @@ use Rattle.packets.proofs.packet.compose.Statement.{statement}
 use Rattle.packets.proofs.packet.compose.Tie as tie
 use Rattle.packets.proofs.packet.compose.Reads as reads
 use Rattle.packets.proofs.packet.compose.Lts as lts
-use Rattle.packets.proofs.fcs.checksum.Reads as checksum-reads
+use Rattle.fcs.proofs.checksum.Reads as checksum-reads
 use Rattle.lists.proofs.paste.Reads as paste-reads
 
 -- the paste leaves the buffer's size

@@ -1,11 +1,11 @@
 use Rattle.layout.specs.Settings.{SettingsSized, settingsBytes}
-use mathlib.Core.Path.{_≡_, refl, sym, _∙_, ap}
+use mathlib.Core.Path.{refl}
 use Rattle.layout.proofs.Laid.{first, further}
 use borrow.Author.Needs.{length-unmapped}
 use Prim.Native.Nat.{ℕ}
-use mathlib.Core.Path.{_≡_, refl}
+use mathlib.Core.Path.{refl}
 use native.Mathlib.Omega.{arith}
-use Rattle.layout.proofs.Laid.{Laid, further}
+use Rattle.layout.proofs.Laid.{further}
 use borrow.Author.Needs.{needs}
 use Rattle.packing.proofs.settings.lay.Statement.{statement}
 use Rattle.packing.proofs.settings.lay.Tie as tie

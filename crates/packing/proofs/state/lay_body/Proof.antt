@@ -1,6 +1,6 @@
 use borrow.Author.Needs.{length-unmapped}
 use Prim.Native.Nat.{ℕ}
-use mathlib.Core.Path.{_≡_, refl, sym, _∙_, ap}
+use mathlib.Core.Path.{refl}
 use native.Mathlib.Omega.{arith}
 use Rattle.layout.specs.State.{bodyBytes}
 use Rattle.layout.proofs.Laid.{first, further, length-settings, length-pins}

@@ -1,4 +1,4 @@
-use mathlib.Core.Path.{_≡_, refl, sym, _∙_, ap}
+use mathlib.Core.Path.{refl, _∙_, ap}
 use native.Mathlib.Omega.{arith}
 use Rattle.lists.specs.Runs.{pasted}
 use Rattle.layout.specs.State.{fiveBits, pinsBytes}

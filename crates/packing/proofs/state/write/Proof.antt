@@ -8,7 +8,7 @@ use Rattle.lists.specs.Runs.{pasted}
 use native.Mathlib.Omega.{arith}
 use Rattle.layout.specs.State.{bytesOf, stateWith}
 use Rattle.layout.proofs.Laid.{first, further, length-body, whole}
-use mathlib.Core.Path.{_≡_, refl, sym, _∙_, ap}
+use mathlib.Core.Path.{refl, sym, _∙_, ap}
 use borrow.Author.Tests.{eq-eqb, ne-eqb}
 use Rattle.lists.proofs.Laws.{when-true, when-false}
 use borrow.Author.Needs.{needs}

@@ -1,5 +1,5 @@
-use Prim.Native.Nat.{ℕ, _≤_, _-_}
-use mathlib.Core.Path.{_≡_, refl, _∙_}
+use Prim.Native.Nat.{_≤_, _-_}
+use mathlib.Core.Path.{_≡_, refl}
 use Rattle.paint.proofs.Codes.{lowFirst, low-turn, low-all}
 use native.Mathlib.Omega.{arith}
 use borrow.Author.Needs.{needs}

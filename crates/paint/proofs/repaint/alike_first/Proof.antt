@@ -1,4 +1,4 @@
-use Prim.Native.Nat.{ℕ, _≤_, _-_}
+use Prim.Native.Nat.{_≤_, _-_}
 use mathlib.Core.Path.{_≡_, refl}
 use Rattle.paint.specs.Repaint.{alike}
 use Rattle.paint.proofs.Changes.{alike-turn}

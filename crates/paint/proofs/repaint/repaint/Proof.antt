@@ -1,4 +1,4 @@
-use mathlib.Core.Path.{_≡_, _∙_, sym, ap}
+use mathlib.Core.Path.{_∙_, sym, ap}
 use native.Mathlib.Omega.{arith}
 use borrow.Author.Needs.{length-unmapped}
 use Prim.Native.Nat.{ℕ}

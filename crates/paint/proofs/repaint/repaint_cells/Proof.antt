@@ -1,12 +1,11 @@
-use Prim.Native.Nat.{ℕ, _≤_, _-_}
-use mathlib.Core.Path.{_≡_, refl, _∙_, sym, ap}
+use Prim.Native.Nat.{_-_}
+use mathlib.Core.Path.{_∙_, sym}
 use mathlib.Core.Bool.{_&&_}
 use lib.ListN.{length}
 use Rattle.paint.specs.Draw.{shown}
 use Rattle.paint.proofs.Changes.{both, alike-whole}
 use Rattle.paint.proofs.Sizes.{both-sized, repaint-left, sized-repaints}
 use Rattle.paint.proofs.Turns.{Reached, reached-first, reached-left, reached-listed, reached-all, shown-again}
-use native.Mathlib.Omega.{arith}
 use borrow.Author.Needs.{needs}
 use Rattle.paint.proofs.repaint.repaint_cells.Statement.{statement}
 use Rattle.paint.proofs.repaint.repaint_cells.Tie as tie

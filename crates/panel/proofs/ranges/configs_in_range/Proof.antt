@@ -1,11 +1,10 @@
 use Prim.Native.Nat.{_≤_, _-_}
-use mathlib.Core.Path.{_≡_, refl, sym, _∙_}
+use mathlib.Core.Path.{_≡_, sym, _∙_}
 use mathlib.Core.Bool.{_&&_}
 use lib.ListN.{length, drop}
 use Rattle.table.specs.Table.{configAllowed}
 use Rattle.lists.proofs.Laws.{all-turn, all-ended}
 use Rattle.panel.specs.Ranges.{configsInRange}
-use native.Mathlib.Omega.{arith}
 use borrow.Author.Needs.{needs}
 use Rattle.panel.proofs.ranges.configs_in_range.Statement.{statement}
 use Rattle.panel.proofs.ranges.configs_in_range.Tie as tie

@@ -1,7 +1,5 @@
 use mathlib.Core.Path.{refl}
 use Rattle.panel.specs.Ranges.{keysInRange}
-use native.Mathlib.Omega.{arith}
-use borrow.Author.Needs.{needs}
 use Rattle.panel.proofs.ranges.keys_in_range.Statement.{statement}
 use Rattle.panel.proofs.ranges.keys_in_range.Tie as tie
 use Rattle.panel.proofs.ranges.keys_in_range.Reads as reads

@@ -1,7 +1,5 @@
 use mathlib.Core.Path.{refl}
 use Rattle.panel.specs.State.{factorySettings}
-use native.Mathlib.Omega.{arith}
-use borrow.Author.Needs.{needs}
 use Rattle.panel.proofs.state.factory.Statement.{statement}
 use Rattle.panel.proofs.state.factory.Tie as tie
 use Rattle.panel.proofs.state.factory.Reads as reads

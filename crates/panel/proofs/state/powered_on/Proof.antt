@@ -1,5 +1,4 @@
 use Rattle.panel.specs.State.{poweredOn}
-use native.Mathlib.Omega.{arith}
 use borrow.Author.Needs.{needs}
 use Rattle.panel.proofs.state.powered_on.Statement.{statement}
 use Rattle.panel.proofs.state.powered_on.Tie as tie

@@ -2,7 +2,7 @@ use lib.ListN.{length}
 use Rattle.layout.specs.State.{readable}
 use Rattle.unpacking.specs.State.{readingOf}
 use mathlib.Core.Bool.{true, false}
-use mathlib.Core.Path.{_≡_, refl, sym, _∙_, ap}
+use mathlib.Core.Path.{_≡_, sym, _∙_}
 use borrow.Author.Tests.{eq-eqb, ne-eqb, not-true, not-false}
 use Rattle.lists.proofs.Laws.{when-true, when-false}
 use borrow.Author.Needs.{needs}

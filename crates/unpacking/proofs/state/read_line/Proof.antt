@@ -1,5 +1,4 @@
-use mathlib.Core.Path.{_∙_, sym}
-use mathlib.Core.Bool.{false}
+use mathlib.Core.Path.{sym}
 use borrow.Author.Tests.{eq-eqb, ne-eqb}
 use Rattle.lists.proofs.Laws.{when-true, when-false}
 use Rattle.unpacking.specs.State.{lineOf}

@@ -51,7 +51,8 @@ use Rattle.register.specs.Run.{FilesIn}
 use Rattle.answers.specs.declared.Said.{Said}
 use Rattle.picture.specs.Calls.{Lent, lent}
 use Rattle.whole.specs.declared.line.Heard.{Heard}
-use Rattle.whole.specs.Whole.{withUnfiled, HearsAll, LineCall}
+use Rattle.answers.specs.Answer.{withUnfiled}
+use Rattle.whole.specs.Whole.{HearsAll, LineCall}
 use Rattle.register.proofs.Parts.{copied-part}
 use Rattle.register.proofs.Walks.{in-order, span, frees-all, copied, sets, asks-plain, asks-lent, hears, learns, meets}
 use Rattle.whole.proofs.LineCalls.{put-together}

@@ -1,0 +1,66 @@
+use Prim.Native.Nat.{ℕ, _≤_, _<_, _-_, _+_}
+use mathlib.Core.Path.{_≡_, sym, _∙_}
+use mathlib.Core.List.{List}
+use native.Mathlib.Numerals.{add-one}
+use lib.ListN.{length, drop, getD, drop-of-length-le}
+use lib.Seq.{drop-cons}
+use Rattle.fcs.specs.Fcs.{afterByte, afterBytes}
+use borrow.Author.Needs.{needs}
+use Rattle.fcs.proofs.run.Statement.{statement}
+use Rattle.fcs.proofs.run.Tie as tie
+use Rattle.fcs.proofs.run.Reads as reads
+use Rattle.fcs.proofs.run.Lts as lts
+use Rattle.fcs.proofs.byte.Reads as byte-reads
+
+turn : (bytes : List ℕ) (c i r all : ℕ) → i < length bytes → r ≡ afterByte c (getD bytes i 0) → afterBytes c (drop i bytes) ≡ all → afterBytes r (drop (i + 1) bytes) ≡ all
+turn bytes c i r all h e g =
+    let t : afterBytes (afterByte c (getD bytes i 0)) (drop (i + 1) bytes) ≡ afterBytes c (drop i bytes) = rw (add-one, drop-cons bytes i 0) in
+    (λ j. afterBytes (e j) (drop (i + 1) bytes)) ∙ t ∙ g
+
+ended : (bytes : List ℕ) (c i : ℕ) → length bytes ≤ i → afterBytes c (drop i bytes) ≡ c
+ended bytes c i h = rw (drop-of-length-le bytes h)
+
+abbrev Inv-loop : tie.InvT-loop
+Inv-loop bytes c₀ i₀ c i = (i ≤ length bytes) × (afterBytes c (drop i bytes) ≡ afterBytes 65535 bytes)
+
+abbrev μ-loop : tie.MeasureT-loop
+μ-loop bytes c₀ i₀ c i = length bytes - i
+
+loop-holds : tie.Need-loop-holds Inv-loop μ-loop
+loop-holds c = search needs
+
+shared-slice-read-byte : tie.Need-shared-slice-read-byte Inv-loop μ-loop
+shared-slice-read-byte c = search needs
+
+byte-requires : tie.Need-byte-requires Inv-loop μ-loop
+byte-requires c κs = search needs
+
+add-i : tie.Need-add-i Inv-loop μ-loop
+add-i c = search needs
+
+loop-less : tie.Need-loop-less Inv-loop μ-loop
+loop-less c = search needs
+
+loop-again : tie.Need-loop-again Inv-loop μ-loop
+loop-again c =
+    let l = c .before .before .before .loop in
+    (search needs, turn (c .before .before .before .before .before .args .bytes .now) (l .c) (l .i) (c .byte .result) _ (c .before .before .loop-test .taken) (c .byte .ensures) (l .inv .1))
+
+returns : tie.Need-returns Inv-loop μ-loop
+returns c =
+    let l = c .before .loop in
+    sym (ended (c .before .before .before .args .bytes .now) (l .c) (l .i) (c .loop-test .left)) ∙ l .inv .1
+
+pub run-spec : {M : Type 1} → statement M
+run-spec =
+    tie.close
+    (tie.spec
+    Inv-loop
+    μ-loop
+    loop-holds
+    shared-slice-read-byte
+    byte-requires
+    add-i
+    loop-less
+    loop-again
+    returns)

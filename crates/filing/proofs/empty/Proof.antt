@@ -1,0 +1,11 @@
+use borrow.Author.Needs.{needs}
+use Rattle.filing.proofs.empty.Statement.{statement}
+use Rattle.filing.proofs.empty.Tie as tie
+use Rattle.filing.proofs.empty.Reads as reads
+use Rattle.filing.proofs.empty.Lts as lts
+
+returns : tie.Need-returns
+returns c = search needs
+
+pub empty-spec : {M : Type 1} → statement M
+empty-spec = tie.close (tie.spec returns)
