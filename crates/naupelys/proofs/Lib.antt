@@ -1,2 +1,2 @@
-mod Together
+pub mod Together
 pub mod Theorems

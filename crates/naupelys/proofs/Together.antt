@@ -53,7 +53,7 @@ module _ (state : List ℕ) (r : Reading) (reads : ReadsState state r) (yes : r 
   )
 
 -- power-on returns the power-on state, refused or not
-power-panel : (picture font : List ℕ) → powerSaid picture font .panel ≡ poweredOn
+pub power-panel : (picture font : List ℕ) → powerSaid picture font .panel ≡ poweredOn
 power-panel picture font =
     either-way (powerChecks picture font) (λ a f. ap (λ (s : Said). s .panel) (refused-by f (refusedCall poweredOn) (acceptedCall poweredOn)))
     (λ q. ap (λ (s : Said). s .panel) (accepted-by (powerChecks picture font) q (refusedCall poweredOn) (acceptedCall poweredOn)))

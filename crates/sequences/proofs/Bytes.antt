@@ -23,11 +23,11 @@ use Rattle.linecall.proofs.OnState.{no-on, is-on}
 use Rattle.naupelys.specs.Calls.{KeyBytes, PinBytes}
 use Rattle.sequences.specs.Bytes.{ReadFrom}
 
-state-kept : (state : List ℕ) (s : Said) → 10 ≤ numberOf s → stateAfter state s ≡ state
+pub state-kept : (state : List ℕ) (s : Said) → 10 ≤ numberOf s → stateAfter state s ≡ state
 unfolding stateAfter
 state-kept state s h = when-false _ _ _ (le-ltb _ _ h)
 
-faults-kept : (faults : List ℕ) (s : Said) → 10 ≤ numberOf s → faultsAfter (s .answer) (s .panel .unfiled) faults ≡ faults
+pub faults-kept : (faults : List ℕ) (s : Said) → 10 ≤ numberOf s → faultsAfter (s .answer) (s .panel .unfiled) faults ≡ faults
 unfolding faultsAfter
 faults-kept faults s h = when-false _ _ _ (ne-eqb (numberOf s) 4 (λ e. absurd (omega arith)))
 

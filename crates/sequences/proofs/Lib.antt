@@ -10,7 +10,10 @@ pub mod Bytes
 mod OtherCalls
 mod Played
 mod Files
+mod Fits
 mod Pictures
 mod Stories
 mod Worked
 pub mod Theorems
+mod Standing
+pub mod Library

@@ -2,3 +2,4 @@ pub mod Run
 pub mod Story
 pub mod Worked
 pub mod Bytes
+pub mod Library

@@ -1,0 +1,274 @@
+-- The library's calls on bytes that stand for a panel, a picture and a register are the panel's own calls, and leave bytes that do.
+use Prim.Native.Nat.{ℕ, _<_, _≤_}
+use mathlib.Core.Path.{_≡_, refl, sym, _∙_, ap, subst}
+use mathlib.Core.Logic.{dite, _≢_, _↔_}
+use mathlib.Core.Bool.{Bool, true, false}
+use mathlib.Core.List.{List, []}
+use native.Mathlib.Decide.{decLt}
+use native.Mathlib.Omega.{arith}
+use borrow.Author.Tests.{eq-eqb, eqb-true, lt-ltb, ne-eqb}
+use lib.ListN.{length, getD}
+use Rattle.lists.specs.Tests.{when_then_else_, _=?_}
+use Rattle.lists.proofs.Laws.{when-either, when-true, when-false}
+use Rattle.glyphs.proofs.Every.{Every}
+use Rattle.panel.specs.declared.state.Panel.{Panel}
+use Rattle.filing.specs.declared.Record.{Record}
+use Rattle.filing.specs.Filing.{Files, counts, filedIf}
+use Rattle.filing.proofs.Theorems.{length-filed}
+use Rattle.answers.specs.declared.Said.{Said}
+use Rattle.answers.specs.Answer.{Check, decided, numbersOf, filingOf, refusedCall, withUnfiled}
+use Rattle.answers.proofs.Checks.{ByNumber, refused-by, accepted-by, either-way, answers-by-number}
+use Rattle.events.specs.Keys.{keyChecks, keyAccepted, keySaid, keyReply}
+use Rattle.events.specs.Pins.{pinChecks, pinAccepted, pinSaid}
+use Rattle.events.proofs.KeyCalls.{key-by-number}
+use Rattle.paint.specs.Draw.{cellDrawn, shownBy, placeOf}
+use Rattle.paint.specs.Repaint.{ListedIn}
+use Rattle.picture.specs.Calls.{Lent, lent, lineSaid, linePicture, lineList, lineReply}
+use Rattle.whole.specs.Whole.{filesAfter}
+use Rattle.layout.specs.State.{bytesOf, panelOf, readable, PanelFits}
+use Rattle.layout.specs.Faults.{recordsOf, registerBytes, registerOf, faultsWith}
+use Rattle.layout.specs.Says.{numberOf}
+use Rattle.layout.specs.Calls.{onState, stateAfter}
+use Rattle.layout.proofs.Records.{length-records, length-bytes}
+use Rattle.layout.proofs.Theorems.{panel-read-back, register-read-back}
+use Rattle.linecall.specs.Line.{recordsIn, filesBy, faultsAfter, lineFiled}
+use Rattle.linecall.proofs.OnState.{is-on}
+use Rattle.sequences.specs.Run.{Call, line, key, pin, World, refusedIn, Makes}
+use Rattle.sequences.specs.Library.{Kept, Returns, refusals, recordsLent, Stands}
+use Rattle.sequences.proofs.Calls.{refused-call-changes-nothing}
+use Rattle.sequences.proofs.Calls as calls
+use Rattle.sequences.proofs.Bytes.{state-kept, faults-kept, line-says}
+use Rattle.sequences.proofs.Outcomes.{passed, said-accepted}
+use Rattle.sequences.proofs.Fits.{body-fits, heard-fits, pin-fits, Small, every-small, each-small, filing-fits}
+
+lent-records : (faults : List ℕ) → length (recordsLent faults) ≡ recordsIn (length faults)
+unfolding recordsLent recordsIn when_then_else_
+lent-records faults = go (length faults =? 448)
+  where
+    go : (t : Bool) → length (when t then recordsOf 64 faults else []) ≡ when t then 64 else 0
+    go true = length-records 64 faults
+    go false = refl
+
+-- of 448 bytes
+as-register : (faults : List ℕ) → length faults ≡ 448 → recordsLent faults ≡ registerOf faults
+unfolding recordsLent registerOf
+as-register faults e = let t = eq-eqb (length faults) 448 e in when-true _ _ _ t ∙ sym (when-true _ _ _ t)
+
+sized : (faults : List ℕ) → recordsIn (length faults) ≡ 64 → length faults ≡ 448
+unfolding recordsIn
+sized faults = when-either (λ (n : ℕ). n ≡ 64 → length faults ≡ 448) (length faults =? 448) 64 0 (λ t _. eqb-true _ _ t) (λ _ e. absurd (omega arith))
+
+written-back : (records : List Record) → length records ≡ 64 → Every Small records → recordsLent (registerBytes records) ≡ records
+written-back records n e =
+    as-register (registerBytes records) (length-bytes 64 records) ∙ register-read-back records n (λ i _. each-small records e i)
+
+-- the state after a call that is not refused by number
+state-after : (state : List ℕ) (r : Said) → numberOf r < 10 → stateAfter state r ≡ bytesOf (r .panel)
+unfolding stateAfter
+state-after state r h = when-true _ _ _ (lt-ltb _ _ h)
+
+module _ {k : Kept} {w : World} (s : Stands k w) where
+  pub is-read : readable (k .state) ≡ true
+  is-read = ap readable (s .state) ∙ panel-read-back (w .panel) (s .fits) .0
+
+  pub same-panel : panelOf (k .state) ≡ w .panel
+  same-panel = ap panelOf (s .state) ∙ panel-read-back (w .panel) (s .fits) .1
+
+  on-panel : {A : Type 0} (x : A) (f : Panel → A) → onState (k .state) x f ≡ f (w .panel)
+  on-panel x f = is-on _ _ _ is-read ∙ ap f same-panel
+
+-- a key or pin call: its checks decide between the panel as it was and the one after the event
+module _ (p : Panel) (checks : List Check) (accepted : Said) (numbers : ByNumber checks) (three : numberOf accepted ≡ 3) where
+  abbrev r : Said
+  r = decided checks (refusedCall p) accepted
+
+  other-state : (state : List ℕ) → state ≡ bytesOf p → stateAfter state r ≡ bytesOf (r .panel)
+  other-state state e =
+      either-way checks
+      (λ a f. let q = refused-by f (refusedCall p) accepted in rw q (state-kept state (refusedCall p a) (answers-by-number numbers f) ∙ e))
+      (λ q. let z = accepted-by checks q (refusedCall p) accepted in rw z (state-after state accepted (omega arith)))
+
+  other-refusals : refusals (numberOf r) ≡ 0
+  unfolding refusals
+  other-refusals =
+      either-way checks
+      (λ a f. let q = refused-by f (refusedCall p) accepted in rw q (when-false _ _ _ (ne-eqb (numbersOf a .number) 4 (λ e. absurd (omega (arith, answers-by-number numbers f))))))
+      (λ q. let z = accepted-by checks q (refusedCall p) accepted in rw (z, three) (when-false _ _ _ refl))
+
+  other-fits : PanelFits p → PanelFits (accepted .panel) → PanelFits (r .panel)
+  other-fits h g = either-way checks (λ a f. rw (refused-by f (refusedCall p) accepted) h) (λ q. rw (accepted-by checks q (refusedCall p) accepted) g)
+
+module _ (font : List ℕ) {k : Kept} {w : World} (s : Stands k w) where
+  key-step : (number : ℕ) (down : Bool) (reply : List ℕ) (l : Kept) (n : ℕ) → Returns font (key number down reply) k l n
+      → (v : World) × Makes font (key number down reply) w v (refusals n) × Stands l v
+  unfolding numbersOf
+  key-step number down reply l n m =
+      let p = w .panel in
+      let c = keyChecks p number down reply in
+      let a = keyAccepted p number down in
+      let r = keySaid p number down reply in
+      let b = key-by-number p number down reply in
+      let v : World = record { panel = r .panel; picture = w .picture; register = w .register } in
+      let e : n ≡ numberOf r = m .2 .0 ∙ on-panel s 10 (λ (q : Panel). numberOf (keySaid q number down reply)) in (
+        v,
+        (r, keyReply p number down reply, (refl, refl), refl, refl, refl, ap refusals e ∙ other-refusals p c a b refl),
+        record {
+          state = m .2 .1 ∙ on-panel s (k .state) (λ (q : Panel). stateAfter (k .state) (keySaid q number down reply)) ∙ other-state p c a b refl (k .state) (s .state);
+          fits = other-fits p c a b refl (s .fits) (s .fits);
+          picture = m .3 ∙ s .picture;
+          register = s .register ∙ ap recordsLent (sym (m .4));
+          counts = s .counts;
+        },
+      )
+
+  pin-step : (number : ℕ) (high : Bool) (l : Kept) (n : ℕ) → Returns font (pin number high) k l n → (v : World) × Makes font (pin number high) w v (refusals n) × Stands l v
+  unfolding numbersOf
+  pin-step number high l n m =
+      let p = w .panel in
+      let c = pinChecks p number in
+      let a = pinAccepted p number high in
+      let r = pinSaid p number high in
+      let b : ByNumber c = (omega arith, (omega arith, tt)) in
+      let f = s .fits in
+      let g = pin-fits high number (p .body) (body-fits p f) in
+      let v : World = record { panel = r .panel; picture = w .picture; register = w .register } in
+      let e : n ≡ numberOf r = m .1 .0 ∙ on-panel s 10 (λ (q : Panel). numberOf (pinSaid q number high)) in (
+        v,
+        (r, refl, refl, refl, refl, ap refusals e ∙ other-refusals p c a b refl),
+        record {
+          state = m .1 .1 ∙ on-panel s (k .state) (λ (q : Panel). stateAfter (k .state) (pinSaid q number high)) ∙ other-state p c a b refl (k .state) (s .state);
+          fits = other-fits p c a b refl f (f .0, f .1, f .2, f .3, g .0, g .1, g .2, f .7, f .8);
+          picture = m .2 ∙ s .picture;
+          register = s .register ∙ ap recordsLent (sym (m .3));
+          counts = s .counts;
+        },
+      )
+
+  module _ (piece list reply : List ℕ) (l : Kept) (n : ℕ) (m : Returns font (line piece list reply) k l n) where
+    abbrev p : Panel
+    p = w .panel
+
+    abbrev o : Lent
+    o = lent piece (w .picture) font list reply (length (w .register))
+
+    abbrev t : Said
+    t = lineSaid p o
+
+    abbrev files : Files
+    files = filesAfter t (w .register)
+
+    abbrev after : World
+    after = record { panel = withUnfiled t (files .unfiled) .panel; picture = linePicture p o; register = files .register }
+
+    records : length (w .register) ≡ recordsIn (length (k .faults))
+    records = ap length (s .register) ∙ lent-records (k .faults)
+
+    on-call : {A : Type 0} (x : A) (f : Panel → Lent → A) → onState (k .state) x (λ (q : Panel). f q (lent piece (k .picture) font list reply (recordsIn (length (k .faults))))) ≡ f p o
+    on-call x f = is-on _ _ _ (is-read s) ∙ (λ i. f (same-panel s i) (lent piece (s .picture i) font list reply (sym records i)))
+
+    number-is : n ≡ numberOf t
+    number-is = m .3 .0 ∙ on-call 10 (λ (q : Panel) (x : Lent). numberOf (lineSaid q x))
+
+    state-is : l .state ≡ stateAfter (k .state) (lineFiled p o (k .faults))
+    state-is = m .3 .1 ∙ on-call (k .state) (λ (q : Panel) (x : Lent). stateAfter (k .state) (lineFiled q x (k .faults)))
+
+    picture-is : l .picture ≡ linePicture p o
+    picture-is = m .3 .2 ∙ on-call (k .picture) (λ (q : Panel) (x : Lent). linePicture q x)
+
+    faults-is : l .faults ≡ faultsAfter (t .answer) (t .panel .unfiled) (k .faults)
+    faults-is = m .3 .5 ∙ on-call (k .faults) (λ (q : Panel) (x : Lent). faultsAfter (lineSaid q x .answer) (lineSaid q x .panel .unfiled) (k .faults))
+
+    refused-stands : 10 ≤ numberOf t → Stands l after
+    refused-stands h =
+        let u = refused-call-changes-nothing p o (w .register) (withUnfiled t (files .unfiled)) _ _ _ _ (refl, refl, refl, refl, refl) h in
+        let same : after .panel ≡ p = ap (λ (x : Said). x .panel) (u .0) in
+        record {
+          state = state-is ∙ state-kept (k .state) (lineFiled p o (k .faults)) h ∙ s .state ∙ ap bytesOf (sym same);
+          fits = subst PanelFits (sym same) (s .fits);
+          picture = picture-is;
+          register = u .4 ∙ s .register ∙ ap recordsLent (sym (faults-is ∙ faults-kept (k .faults) t h));
+          counts = λ i. rw (u .4) (s .counts i);
+        }
+
+    module _ (h : numberOf t < 10) where
+      is-64 : length (w .register) ≡ 64
+      is-64 = eqb-true _ _ (passed p o (w .register) (withUnfiled t (files .unfiled)) _ _ _ _ (refl, refl, refl, refl, refl) h .1 .1 .1 .1 .1 .1 .0)
+
+      is-448 : length (k .faults) ≡ 448
+      is-448 = sized (k .faults) (sym records ∙ is-64)
+
+      same-files : filesBy (t .answer) (t .panel .unfiled) (k .faults) ≡ files
+      same-files = ap (filesAfter t) (sym (s .register ∙ as-register (k .faults) is-448))
+
+      said-fits : PanelFits (t .panel)
+      said-fits =
+          subst (λ (x : Said). PanelFits (x .panel)) (sym (said-accepted p o (w .register) (withUnfiled t (files .unfiled)) _ _ _ _ (refl, refl, refl, refl, refl) h))
+          (heard-fits p piece reply (s .fits))
+
+      files-fit : Every Small (files .register) × (files .unfiled < 4294967296)
+      files-fit = filing-fits (filingOf (t .answer) .refused) (filingOf (t .answer) .key) (record { register = w .register; unfiled = t .panel .unfiled }) (every-small (w .register) (s .counts)) (said-fits .8)
+
+      records-stand : (b : Bool) → filingOf (t .answer) .refused ≡ b → files .register ≡ recordsLent (faultsAfter (t .answer) (t .panel .unfiled) (k .faults))
+      unfolding faultsAfter faultsWith filedIf
+      records-stand true e =
+          let n : length (files .register) ≡ 64 = length-filed _ _ _ ∙ is-64 in
+          sym (written-back (files .register) n (files-fit .0))
+          ∙ ap recordsLent (ap (λ (f : Files). registerBytes (f .register)) (sym same-files) ∙ sym (when-true _ _ _ (eq-eqb (length (k .faults)) 448 is-448)) ∙ sym (when-true _ _ _ e))
+      records-stand false e = ap (λ (f : Files). f .register) (when-false _ _ _ e) ∙ s .register ∙ ap recordsLent (sym (when-false _ _ _ e))
+
+      accepted-stands : Stands l after
+      accepted-stands =
+          let f = said-fits in
+          record {
+            state = state-is ∙ state-after (k .state) (lineFiled p o (k .faults)) h ∙ ap (λ (x : Files). bytesOf (withUnfiled t (x .unfiled) .panel)) same-files;
+            fits = (f .0, f .1, f .2, f .3, f .4, f .5, f .6, f .7, files-fit .1);
+            picture = picture-is;
+            register = records-stand (filingOf (t .answer) .refused) refl ∙ ap recordsLent (sym faults-is);
+            counts = each-small (files .register) (files-fit .0);
+          }
+
+    stands : Stands l after
+    stands = dite (decLt (numberOf t) 10) accepted-stands (λ h. refused-stands (omega arith))
+
+    line-step : (v : World) × Makes font (line piece list reply) w v (refusals n) × Stands l v
+    unfolding refusedIn refusals
+    line-step = (after, (withUnfiled t (files .unfiled), lineList p o, lineReply p o, (refl, refl, refl, refl, refl), refl, ap refusals number-is), stands)
+
+    -- what the call lists, by the count in its 16 bytes
+    abbrev listed : ℕ
+    listed = getD (m .2) 13 0
+
+    listed-is : listed ≡ t .listed
+    listed-is =
+        let b = lent piece (k .picture) font list reply (recordsIn (length (k .faults))) in
+        let e : getD (m .2) 13 0 ≡ lineSaid (panelOf (k .state)) b .listed = line-says (k .state) b (k .faults) n (l .state) (l .picture) (m .0) (m .1) (l .faults) (m .2) (m .3) (is-read s) .8 in
+        let f : lineSaid (panelOf (k .state)) b .listed ≡ t .listed = λ i. lineSaid (same-panel s i) (lent piece (s .picture i) font list reply (sym records i)) .listed in
+        e ∙ f
+
+    list-is : m .0 ≡ lineList p o
+    list-is = m .3 .3 ∙ on-call list (λ (q : Panel) (x : Lent). lineList q x)
+
+    module _ (accepted : n < 10) where
+      said-below : numberOf t < 10
+      said-below = rw number-is at accepted
+
+      pub rises : (i j : ℕ) → i < j → j < listed → getD (m .0) i 0 < getD (m .0) j 0
+      rises i j h g =
+          rw list-is
+          (calls.list-rises p o (w .register) (withUnfiled t (files .unfiled)) _ _ _ _ (refl, refl, refl, refl, refl) said-below i j h (rw listed-is at g))
+
+      pub exactly : (cell : ℕ) → cell < 80
+          → ListedIn (m .0) listed cell ↔ (cellDrawn (shownBy (panelOf (k .state) .body .live)) font cell ≢ cellDrawn (shownBy (panelOf (l .state) .body .live)) font cell)
+      exactly cell h =
+          rw (list-is, listed-is, same-panel s, same-panel stands)
+          (calls.list-is-the-change p o (w .register) (withUnfiled t (files .unfiled)) _ _ _ _ (refl, refl, refl, refl, refl) said-below cell h)
+
+      pub unlisted-stay : (cell j : ℕ) → cell < 80 → j < 8 → (ListedIn (m .0) listed cell → ⊥) → getD (l .picture) (placeOf cell j) 0 ≡ getD (k .picture) (placeOf cell j) 0
+      unlisted-stay cell j h g none =
+          rw (picture-is, s .picture)
+          (calls.no-other-byte p o (w .register) (withUnfiled t (files .unfiled)) _ _ _ _ (refl, refl, refl, refl, refl) said-below cell j h g (rw (list-is, listed-is) at none))
+
+pub one-step : (font : List ℕ) (c : Call) {k l : Kept} {w : World} (n : ℕ) → Stands k w → Returns font c k l n → (v : World) × Makes font c w v (refusals n) × Stands l v
+one-step font (line piece list reply) n s m = line-step font s piece list reply _ n m
+one-step font (key number down reply) n s m = key-step font s number down reply _ n m
+one-step font (pin number high) n s m = pin-step font s number high _ n m
