@@ -52,7 +52,11 @@ decided (check passes answer ∷ checks) refused accepted = when passes then dec
 abbrev pub refusedCall : Panel → Answer → Said
 refusedCall p a = record { panel = p; answer = a; taken = 0; dropped = 0; checked = 0; reply = 0; listed = 0 }
 
--- the same with another unfiled number
+-- "An accepted key, pin or power-on call answers 3."
+abbrev pub acceptedCall : Panel → ℕ → Said
+acceptedCall p reply = record { panel = p; answer = Done 0; taken = 0; dropped = 0; checked = 0; reply = reply; listed = 0 }
+
+-- what a call says, with another unfiled number
 abbrev pub withUnfiled : Said → ℕ → Said
 withUnfiled s n =
     record {
@@ -76,3 +80,7 @@ Hands a r = r ≡ filingOf a
 -- what `refused_call` promises
 abbrev pub Refuses : Panel → Answer → Said → Type 0
 Refuses p a r = r ≡ refusedCall p a
+
+-- what `accepted_call` promises
+abbrev pub Accepts : Panel → ℕ → Said → Type 0
+Accepts p reply r = r ≡ acceptedCall p reply

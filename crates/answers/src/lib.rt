@@ -1,6 +1,6 @@
 // What a call says.
 ghost use mathlib.Core.Path.{_≡_};
-ghost use Rattle.answers.specs.Answer.{Tells, Hands, Refuses};
+ghost use Rattle.answers.specs.Answer.{Tells, Hands, Refuses, Accepts};
 use filing::Refusal;
 use panel::state::Panel;
 use verdict::verdict::Reason;
@@ -112,6 +112,21 @@ pub fn refused_call(p: Panel, answer: Answer) -> Said
         dropped: 0,
         checked: 0,
         reply: 0,
+        listed: 0,
+    }
+}
+
+// A key, pin or power-on call that is accepted, with a reply of so many bytes.
+pub fn accepted_call(p: Panel, reply: usize) -> Said
+    ensures { λ r. ⌜ Accepts p reply r ⌝ }
+{
+    Said {
+        panel: p,
+        answer: Answer::Done(0),
+        taken: 0,
+        dropped: 0,
+        checked: 0,
+        reply,
         listed: 0,
     }
 }

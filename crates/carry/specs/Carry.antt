@@ -106,26 +106,7 @@ withPin s d =
 abbrev pub pinRead : Pins → List ℕ → Pins
 pinRead p d = record { last = p .last; fell = set (p .fell) (getD d 0 0) false; rose = set (p .rose) (getD d 0 0) false }
 
--- the column "does" of the table; commands 0, 1, 3 and 10 change nothing
-unfoldable pub effect : ℕ → List ℕ → Body → Body
-effect code d b =
-    when code =? 2 then withFlash b d
-    else when code =? 4 then stored b
-    else when code =? 5 then rebooted b
-    else when code =? 6 then withLive b (cleared (b .live))
-    else when code =? 9 then withLive b (withGlyph (b .live) d)
-    else when code =? 11 then withLive b (withCursor (b .live) d)
-    else when code =? 12 then withLive b (withStyle (b .live) d)
-    else when code =? 13 then withLive b (withContrast (b .live) d)
-    else when code =? 14 then withLive b (withBacklight (b .live) d)
-    else when code =? 23 then withLive b (withMasks (b .live) d)
-    else when code =? 24 then withKeys b (polled (b .keys))
-    else when code =? 31 then withLive b (withText (b .live) d)
-    else when code =? 34 then withLive b (withPin (b .live) d)
-    else when code =? 35 then withPins b (pinRead (b .pins) d)
-    else b
-
--- the live settings after a command, by themselves
+-- the column "does" of the table, of the commands that change the live settings alone
 unfoldable pub liveAfter : ℕ → List ℕ → Settings → Settings
 liveAfter code d s =
     when code =? 6 then cleared s
@@ -138,6 +119,16 @@ liveAfter code d s =
     else when code =? 31 then withText s d
     else when code =? 34 then withPin s d
     else s
+
+-- the same column for the whole body; commands 0, 1, 3 and 10 change nothing
+unfoldable pub effect : ℕ → List ℕ → Body → Body
+effect code d b =
+    when code =? 2 then withFlash b d
+    else when code =? 4 then stored b
+    else when code =? 5 then rebooted b
+    else when code =? 24 then withKeys b (polled (b .keys))
+    else when code =? 35 then withPins b (pinRead (b .pins) d)
+    else withLive b (liveAfter code d (b .live))
 
 -- 1: CFA635:h1.1,s1.6
 abbrev pub version : List ℕ

@@ -1,12 +1,12 @@
 -- What a packet does, and what a call on the line comes to: it waits, or by the packet that it found.
-use Prim.Native.Nat.{ℕ, _+_, _<_, _≤_}
+use Prim.Native.Nat.{ℕ, _<_, _≤_}
 use mathlib.Core.Path.{_≡_, refl}
 use mathlib.Core.Bool.{Bool, true, false}
-use mathlib.Core.List.{List, []}
+use mathlib.Core.List.{List}
 use borrow.Author.Tests.{ltb-true, ltb-false}
 use Rattle.lists.proofs.Laws.{when-either}
 use Rattle.packets.specs.declared.packet.Packet.{Packet}
-use Rattle.packets.specs.Packet.{packetOf, contentOf}
+use Rattle.packets.specs.Packet.{contentOf}
 use Rattle.framing.specs.declared.scan.Scanned.{Scanned}
 use Rattle.verdict.specs.declared.verdict.Reason.{Reason}
 use Rattle.verdict.specs.declared.verdict.Verdict.{Verdict}
@@ -19,7 +19,7 @@ use Rattle.answers.specs.declared.Answer.the-variants.{Waiting, Done, Refused}
 use Rattle.answers.specs.declared.Said.{Said}
 use Rattle.command.specs.declared.hear.Stepped.{Stepped}
 use Rattle.command.specs.Step.{strayed, ruled, stepOf}
-use Rattle.replies.specs.Reply.{writtenLength, written}
+use Rattle.replies.specs.Reply.{writtenLength, written, errorReply}
 use Rattle.command.specs.Hear.{saidOf, heardBy, replyBy, Hears}
 use Rattle.command.proofs.Hearing.{nothing-heard, packet-heard}
 
@@ -30,7 +30,7 @@ module _ (b : Body) (p : Packet) where
     done : p .kind < 64 → verdictOf (p .kind) (contentOf p) ≡ verdicts.Allowed
         → StepSeen (record { body = carried b p .body; answer = Done (p .kind); replies = true; reply = carried b p .reply })
     refused : {reason : Reason} {place : ℕ} → p .kind < 64 → verdictOf (p .kind) (contentOf p) ≡ verdicts.Refused reason place
-        → StepSeen (record { body = b; answer = Refused (p .kind) reason place; replies = true; reply = packetOf (192 + p .kind) [] })
+        → StepSeen (record { body = b; answer = Refused (p .kind) reason place; replies = true; reply = errorReply (Refused (p .kind) reason place) })
 
   pub steps : StepSeen (stepOf b p)
   unfolding stepOf ruled

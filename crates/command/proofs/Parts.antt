@@ -1,5 +1,5 @@
 -- A call on the line by its parts: the answer from the packet alone, and the body for a done command only.
-use Prim.Native.Nat.{ℕ, _+_, _%_, _<_}
+use Prim.Native.Nat.{ℕ, _%_, _<_}
 use mathlib.Core.Path.{_≡_, refl, sym}
 use mathlib.Core.Bool.{Bool, true, false}
 use mathlib.Core.List.{List, [], _∷_}
@@ -22,7 +22,7 @@ use Rattle.answers.specs.declared.Answer.the-variants.{Stray, Done, Refused}
 use Rattle.answers.specs.Answer.{numbersOf, filingOf}
 use Rattle.answers.proofs.Answer.{the-type}
 use Rattle.command.specs.declared.hear.Stepped.{Stepped}
-use Rattle.replies.specs.Reply.{ruling, answerTo, writtenLength, written, refusedLength, refusedReply}
+use Rattle.replies.specs.Reply.{ruling, answerTo, errorReply, writtenLength, written, refusedLength, refusedReply}
 use Rattle.command.specs.Step.{strayed, ruled, stepOf}
 use Rattle.command.specs.Hear.{saidOf, heardBy, replyBy}
 use Rattle.command.proofs.Hearing.{packet-heard}
@@ -55,16 +55,13 @@ module _ (b : Body) (p : Packet) where
       go t (refused l v) q = let z : _≡_ {A = ℕ} 0 1 = cc in absurd (omega arith)
 
   pub step-refused : {code : ℕ} {reason : Reason} {place : ℕ} → answerTo p ≡ Refused code reason place
-      → (code < 64) × (stepOf b p ≡ record { body = b; answer = answerTo p; replies = true; reply = packetOf (192 + code) [] })
+      → stepOf b p ≡ record { body = b; answer = answerTo p; replies = true; reply = errorReply (answerTo p) }
   step-refused {code} {reason} {place} e = go (stepOf b p) (steps b p) step-answer
     where
-      go : (t : Stepped) → StepSeen b p t → t .answer ≡ answerTo p
-          → (code < 64) × (t ≡ record { body = b; answer = answerTo p; replies = true; reply = packetOf (192 + code) [] })
+      go : (t : Stepped) → StepSeen b p t → t .answer ≡ answerTo p → t ≡ record { body = b; answer = answerTo p; replies = true; reply = errorReply (answerTo p) }
       go t (stray h) q = let z : _≡_ {A = ℕ} 0 1 = cc in absurd (omega arith)
       go t (done l v) q = let z : _≡_ {A = ℕ} 0 1 = cc in absurd (omega arith)
-      go t (refused l v) q =
-          let c : p .kind ≡ code = cc in
-          (omega arith, rw (q, c))
+      go t (refused l v) q = rw (← q)
 
   pub step-else : OneOf rest (tagOf the-type (answerTo p)) → stepOf b p ≡ record { body = b; answer = answerTo p; replies = false; reply = packetOf 0 [] }
   step-else k = go (stepOf b p) (steps b p) step-answer
@@ -102,10 +99,7 @@ module _ (p : Panel) (s : Scanned) (out : List ℕ) where
           → ComesTo (p .body) (refusedLength (answerTo (s .packet)) out) (refusedReply (answerTo (s .packet)) out)
       go t (stray h) q e = let h = packet-heard p s out t _ _ f e refl refl in rw (← q) (sym (h .0), sym (h .1))
       go t (done l v) q e = absurd (n (rw (← q)))
-      go t (refused l v) q e =
-          let h = packet-heard p s out t _ _ f e refl refl in
-          let c : s .packet .kind % 64 ≡ s .packet .kind = omega arith in
-          rw (← q, c) (sym (h .0), sym (h .1))
+      go t (refused l v) q e = let h = packet-heard p s out t _ _ f e refl refl in rw (← q) (sym (h .0), sym (h .1))
 
   -- A done command is carried out, and gets its reply.
   pub is-done : s .found ≡ true → numbersOf (answerTo (s .packet)) .number ≡ 3

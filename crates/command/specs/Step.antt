@@ -1,5 +1,5 @@
 -- What a packet from the line does: "a packet whose type is not a command" is a stray; a command is carried out or refused.
-use Prim.Native.Nat.{ℕ, _+_, _%_}
+use Prim.Native.Nat.{ℕ, _%_}
 use mathlib.Core.Path.{_≡_}
 use mathlib.Core.Bool.{true, false}
 use mathlib.Core.List.{[]}
@@ -11,6 +11,7 @@ use Rattle.verdict.specs.declared.verdict.Verdict.the-variants as verdicts
 use Rattle.verdict.specs.Verdict.{verdictOf}
 use Rattle.panel.specs.declared.state.Body.{Body}
 use Rattle.answers.specs.declared.Answer.the-variants.{Stray, Done, Refused}
+use Rattle.replies.specs.Reply.{errorReply}
 use Rattle.command.specs.declared.hear.Stepped.{Stepped}
 use Rattle.carry.specs.Carry.{carried}
 
@@ -18,11 +19,11 @@ use Rattle.carry.specs.Carry.{carried}
 abbrev pub strayed : Body → ℕ → Stepped
 strayed b kind = record { body = b; answer = Stray (kind % 64); replies = false; reply = packetOf 0 [] }
 
--- done, or refused: "An error reply has type 192 + code and length 0."
+-- done, with the command's reply, or refused, with an error reply
 unfoldable pub ruled : Verdict → Body → Packet → Stepped
 ruled verdicts.Allowed b p = record { body = carried b p .body; answer = Done (p .kind); replies = true; reply = carried b p .reply }
 ruled (verdicts.Refused reason place) b p =
-    record { body = b; answer = Refused (p .kind) reason place; replies = true; reply = packetOf (192 + p .kind) [] }
+    record { body = b; answer = Refused (p .kind) reason place; replies = true; reply = errorReply (Refused (p .kind) reason place) }
 
 -- "The top two type bits: 00 command"
 unfoldable pub stepOf : Body → Packet → Stepped

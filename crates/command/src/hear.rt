@@ -72,7 +72,7 @@ fn step(b: Body, p: Packet) -> Stepped
             body: b,
             answer,
             replies: true,
-            reply: bare(192 + code),
+            reply: bare(192 + code % 64),
         },
         _ => Stepped {
             body: b,

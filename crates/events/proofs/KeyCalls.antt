@@ -13,15 +13,15 @@ use Rattle.packets.specs.Packet.{composable, composedLength, composed}
 use Rattle.packets.proofs.Composing.{fitting}
 use Rattle.panel.specs.declared.state.Settings.{Settings}
 use Rattle.panel.specs.declared.state.Keys.{Keys}
-use Rattle.panel.specs.declared.state.Body.{Body}
 use Rattle.panel.specs.declared.state.Panel.{Panel}
 use Rattle.panel.specs.Ranges.{inRanges}
 use Rattle.answers.specs.declared.Answer.{Answer}
 use Rattle.answers.specs.declared.Said.{Said}
 use Rattle.answers.specs.declared.Answer.the-variants.{KeyAsTold}
-use Rattle.answers.specs.Answer.{numbersOf, check, decided, refusedCall}
+use Rattle.answers.specs.Answer.{numbersOf, check, decided, refusedCall, acceptedCall}
 use Rattle.carry.specs.Carry.{withKeys}
-use Rattle.events.specs.Keys.{isOn, keyEvent, maskFor, reportCode, reportBytes, asTold, keyChecks, reports, withBody, keyAccepted, Presses, acceptedEvent, earlyChecks, early, moving, maskOf, ReportsBy}
+use Rattle.events.specs.Plain.{earlyChecks, early, moving, maskOf, ReportsBy}
+use Rattle.events.specs.Keys.{isOn, keyEvent, maskFor, reportCode, reportBytes, asTold, keyChecks, reports, withBody, keyAccepted, Presses}
 use Rattle.answers.proofs.Checks.{Fails, here, later, Pass, ByNumber, refused-by, accepted-by, call-passed}
 use Rattle.events.proofs.Bits.{beq-true, beq-false}
 use Rattle.events.proofs.Events.{event-in-range}
@@ -83,18 +83,17 @@ module _ (p : Panel) (number : ℕ) (down : Bool) (reply : List ℕ) where
     composes = fitting reply (reportCode down number ∷ []) (eqb-true _ _ (passed .1 .0)) (omega arith)
 
     -- the event and its report, put together
-    pub key-accepted : (keys : Keys) (b : Body) (mask written : ℕ) (reply′ : List ℕ) (r : Said)
-        → keys ≡ keyEvent down number (p .body .keys) → b ≡ withKeys (p .body) keys → mask ≡ maskOf down (p .body .live .press) (p .body .live .release)
-        → ReportsBy mask number down reply written reply′ → r ≡ acceptedEvent (withBody p b) written → Presses p number down reply r reply′
+    pub key-accepted : (keys : Keys) (mask written : ℕ) (reply′ : List ℕ) (r : Said)
+        → keys ≡ keyEvent down number (p .body .keys) → mask ≡ maskOf down (p .body .live .press) (p .body .live .release)
+        → ReportsBy mask number down reply written reply′ → r ≡ acceptedCall (withBody p (withKeys (p .body) keys)) written → Presses p number down reply r reply′
     unfolding composedLength composed
-    key-accepted keys b mask written reply′ r ek eb eo w er =
+    key-accepted keys mask written reply′ r ek eo w er =
         let em : mask ≡ maskFor down (p .body .live) = eo ∙ mask-is (p .body .live) down in
         let n : written ≡ (when reports p number down then 5 else 0) =
         w .0 ∙ (λ i. when isOn (em i) number then when-true _ (length (reportCode down number ∷ []) + 4) 0 composes i else 0) in
         let o : reply′ ≡ (when reports p number down then front (reportBytes down number) reply else reply) =
         w .1 ∙ (λ i. when isOn (em i) number then when-true _ (front (reportBytes down number) reply) reply composes i else reply) in
-        let c : b ≡ withKeys (p .body) (keyEvent down number (p .body .keys)) = eb ∙ ap (withKeys (p .body)) ek in
-        (er ∙ (λ i. acceptedEvent (withBody p (c i)) (n i)) ∙ sym (accepted-by _ passed _ _), o ∙ sym (accepted-by _ passed _ _))
+        (er ∙ (λ i. acceptedCall (withBody p (withKeys (p .body) (ek i))) (n i)) ∙ sym (accepted-by _ passed _ _), o ∙ sym (accepted-by _ passed _ _))
 
     pub accepted-in-range : inRanges (keyAccepted p number down .panel) ≡ true
     accepted-in-range =

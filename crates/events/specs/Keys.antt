@@ -1,20 +1,20 @@
 -- Key events: "key number = bit number", up 0, enter 1, cancel 2, left 3, right 4, down 5.
 use Prim.Native.Nat.{ℕ, _+_, _-_, _/_, _%_, _^_}
 use mathlib.Core.Path.{_≡_}
-use mathlib.Core.Bool.{Bool, true, false, not, _&&_, Bool·beq}
+use mathlib.Core.Bool.{Bool, true, false, not}
 use mathlib.Core.List.{List, [], _∷_}
 use lib.ListN.{length, getD}
 use Rattle.lists.specs.Tests.{when_then_else_, _≤?_, _=?_}
 use Rattle.lists.specs.Runs.{front}
-use Rattle.packets.specs.Packet.{packetBytes, composedLength, composed}
+use Rattle.packets.specs.Packet.{packetBytes}
 use Rattle.panel.specs.declared.state.Settings.{Settings}
 use Rattle.panel.specs.declared.state.Keys.{Keys}
 use Rattle.panel.specs.declared.state.Body.{Body}
 use Rattle.panel.specs.declared.state.Panel.{Panel}
 use Rattle.panel.specs.Ranges.{inRanges}
-use Rattle.answers.specs.declared.Answer.the-variants.{Done, StateOutOfRange, ReplySize, KeyOrPinNumber, KeyAsTold}
+use Rattle.answers.specs.declared.Answer.the-variants.{StateOutOfRange, ReplySize, KeyOrPinNumber, KeyAsTold}
 use Rattle.answers.specs.declared.Said.{Said}
-use Rattle.answers.specs.Answer.{Check, check, decided, refusedCall}
+use Rattle.answers.specs.Answer.{Check, check, decided, refusedCall, acceptedCall}
 use Rattle.carry.specs.Carry.{withKeys}
 
 unfoldable pub isOn : ℕ → ℕ → Bool
@@ -73,15 +73,7 @@ withBody p b = record { hold = p .hold; body = b; unfiled = p .unfiled }
 
 abbrev pub keyAccepted : Panel → ℕ → Bool → Said
 keyAccepted p number down =
-    record {
-      panel = withBody p (withKeys (p .body) (keyEvent down number (p .body .keys)));
-      answer = Done 0;
-      taken = 0;
-      dropped = 0;
-      checked = 0;
-      reply = when reports p number down then 5 else 0;
-      listed = 0;
-    }
+    acceptedCall (withBody p (withKeys (p .body) (keyEvent down number (p .body .keys)))) (when reports p number down then 5 else 0)
 
 abbrev pub keySaid : Panel → ℕ → Bool → List ℕ → Said
 keySaid p number down reply = decided (keyChecks p number down reply) (refusedCall p) (keyAccepted p number down)
@@ -93,28 +85,3 @@ keyReply p number down reply =
 -- what `key` promises of its result and of the reply buffer
 abbrev pub Presses : Panel → ℕ → Bool → List ℕ → Said → List ℕ → Type 0
 Presses p number down reply r reply′ = (r ≡ keySaid p number down reply) × (reply′ ≡ keyReply p number down reply)
-
--- what `accepted` says of an event that is not refused
-abbrev pub acceptedEvent : Panel → ℕ → Said
-acceptedEvent p reply = record { panel = p; answer = Done 0; taken = 0; dropped = 0; checked = 0; reply = reply; listed = 0 }
-
--- the checks of a key call on plain values: those before the last, and whether all pass
-abbrev pub earlyChecks : Bool → ℕ → ℕ → List Check
-earlyChecks inRange size number = check inRange StateOutOfRange ∷ check (size =? 26) ReplySize ∷ check (number ≤? 5) KeyOrPinNumber ∷ []
-
-abbrev pub early : Bool → ℕ → ℕ → Bool
-early inRange size number = (inRange && (size =? 26)) && (number ≤? 5)
-
-abbrev pub moving : Bool → ℕ → ℕ → ℕ → Bool → Bool
-moving inRange size number mask down = early inRange size number && not (Bool·beq (isOn mask number) down)
-
--- the mask by the two
-abbrev pub maskOf : Bool → ℕ → ℕ → ℕ
-maskOf true press release = press
-maskOf false press release = release
-
--- what `report` promises of its result and of the reply buffer
-abbrev pub ReportsBy : ℕ → ℕ → Bool → List ℕ → ℕ → List ℕ → Type 0
-ReportsBy mask number down reply r reply′ =
-    (r ≡ (when isOn mask number then composedLength reply (reportCode down number ∷ []) else 0))
-    × (reply′ ≡ (when isOn mask number then composed reply 128 (reportCode down number ∷ []) else reply))

@@ -8,9 +8,9 @@ use Rattle.lists.specs.Tests.{_≤?_}
 use Rattle.panel.specs.declared.state.Pins.{Pins}
 use Rattle.panel.specs.declared.state.Panel.{Panel}
 use Rattle.panel.specs.Ranges.{inRanges}
-use Rattle.answers.specs.declared.Answer.the-variants.{Done, StateOutOfRange, KeyOrPinNumber}
+use Rattle.answers.specs.declared.Answer.the-variants.{StateOutOfRange, KeyOrPinNumber}
 use Rattle.answers.specs.declared.Said.{Said}
-use Rattle.answers.specs.Answer.{Check, check, decided, refusedCall}
+use Rattle.answers.specs.Answer.{Check, check, decided, refusedCall, acceptedCall}
 use Rattle.carry.specs.Carry.{withPins}
 use Rattle.events.specs.Keys.{withBody}
 
@@ -29,16 +29,7 @@ abbrev pub pinChecks : Panel → ℕ → List Check
 pinChecks p number = check (inRanges p) StateOutOfRange ∷ check (number ≤? 4) KeyOrPinNumber ∷ []
 
 abbrev pub pinAccepted : Panel → ℕ → Bool → Said
-pinAccepted p number high =
-    record {
-      panel = withBody p (withPins (p .body) (pinEvent high number (p .body .pins)));
-      answer = Done 0;
-      taken = 0;
-      dropped = 0;
-      checked = 0;
-      reply = 0;
-      listed = 0;
-    }
+pinAccepted p number high = acceptedCall (withBody p (withPins (p .body) (pinEvent high number (p .body .pins)))) 0
 
 abbrev pub pinSaid : Panel → ℕ → Bool → Said
 pinSaid p number high = decided (pinChecks p number) (refusedCall p) (pinAccepted p number high)

@@ -3,12 +3,12 @@ ghost use mathlib.Core.Path.{_≡_};
 ghost use Prim.Native.Nat.{_^_, _≤_};
 ghost use Rattle.answers.specs.Answer.{decided};
 ghost use Rattle.answers.specs.declared.Answer.the-variants.{KeyAsTold};
-ghost use Rattle.carry.specs.Carry.{withKeys};
-ghost use Rattle.events.specs.Keys.{isOn, withBit, withoutBit, keyEvent, maskOf, reportCode, moving, earlyChecks, ReportsBy, Presses};
+ghost use Rattle.events.specs.Plain.{maskOf, moving, earlyChecks, ReportsBy};
+ghost use Rattle.events.specs.Keys.{isOn, withBit, withoutBit, keyEvent, reportCode, Presses};
 use answers::Answer;
 use answers::Said;
+use answers::accepted_call;
 use answers::refused_call;
-use panel::state::Body;
 use panel::state::Keys;
 use panel::state::Panel;
 
@@ -117,15 +117,8 @@ fn report(mask: u8, number: u8, down: bool, reply: &mut [u8]) -> usize
     packets::packet::compose(reply, 128, &[report_code(number, down)])
 }
 
-fn with_keys(mut b: Body, keys: Keys) -> Body
-    ensures { λ r. ⌜ r ≡ withKeys b keys ⌝ }
-{
-    b.keys = keys;
-    b
-}
-
 // A key goes down or up. Its report, if the mask asks for one, is written into the front of the reply buffer.
-pub fn key(p: Panel, number: u8, down: bool, reply: &mut [u8]) -> Said
+pub fn key(mut p: Panel, number: u8, down: bool, reply: &mut [u8]) -> Said
     ensures { λ r. ⌜ Presses p number down (now (reply .entry)) r (now (reply .exit)) ⌝ }
 {
     let in_ranges = panel::ranges::in_ranges(p);
@@ -140,5 +133,8 @@ pub fn key(p: Panel, number: u8, down: bool, reply: &mut [u8]) -> Said
         down,
         reply,
     );
-    crate::accepted::accepted(p, with_keys(p.body, keys), written)
+    let mut body = p.body;
+    body.keys = keys;
+    p.body = body;
+    accepted_call(p, written)
 }

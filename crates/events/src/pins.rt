@@ -1,12 +1,11 @@
 // Pin events.
 ghost use mathlib.Core.Path.{_≡_};
 ghost use Prim.Native.Nat.{_<_};
-ghost use Rattle.carry.specs.Carry.{withPins};
 ghost use Rattle.events.specs.Pins.{pinEvent, Moves};
 use answers::Answer;
 use answers::Said;
+use answers::accepted_call;
 use answers::refused_call;
-use panel::state::Body;
 use panel::state::Panel;
 use panel::state::Pins;
 
@@ -28,15 +27,8 @@ fn after_event(mut p: Pins, number: u8, high: bool) -> Pins
     p
 }
 
-fn with_pins(mut b: Body, pins: Pins) -> Body
-    ensures { λ r. ⌜ r ≡ withPins b pins ⌝ }
-{
-    b.pins = pins;
-    b
-}
-
 // A pin's level as it is now.
-pub fn pin(p: Panel, number: u8, high: bool) -> Said
+pub fn pin(mut p: Panel, number: u8, high: bool) -> Said
     ensures { λ r. ⌜ Moves p number high r ⌝ }
 {
     if !panel::ranges::in_ranges(p) {
@@ -46,5 +38,8 @@ pub fn pin(p: Panel, number: u8, high: bool) -> Said
         return refused_call(p, Answer::KeyOrPinNumber);
     }
     let pins = after_event(p.body.pins, number, high);
-    crate::accepted::accepted(p, with_pins(p.body, pins), 0)
+    let mut body = p.body;
+    body.pins = pins;
+    p.body = body;
+    accepted_call(p, 0)
 }

@@ -182,7 +182,7 @@ module _ (state : List ℕ) (n : Line) (reads : ReadsLine state n) (l : Lent) (f
         let h = saidOf p s (p .body) Waiting 0 in
         let heard = nothing-heard p s (l .reply) f in
         let on-it : CarriesOn p s (l .picture) (l .font) (l .list) (l .reply) h (l .picture) (l .list) (l .reply) =
-        carried-accepted p s (l .picture) (l .font) (l .list) (l .reply) h 0 _ _ _ (q .1 .1 .0, (q .1 .1 .1 .1 .0, tt)) heard (nothing-repainted (shownBefore p) (l .font) (l .picture) (l .list)) in
+        carried-accepted p s (l .picture) (l .font) (l .list) (l .reply) h 0 _ _ _ (eqb-true _ _ (q .1 .1 .0)) (eqb-true _ _ (q .1 .1 .1 .1 .0)) heard (nothing-repainted (shownBefore p) (l .font) (l .picture) (l .list)) in
         let body : bodyOf state ≡ p .body = ap (λ (x : Panel). x .body) (sym (b .1)) in
         let unfiled = line-read state (b .0) n reads .1 in
         line-called state r refl (can-be-read let-in) number state′ said′ l faults h (p .unfiled) (l .picture) (l .list) (l .reply) faults
@@ -203,7 +203,7 @@ module _ (state : List ℕ) (n : Line) (reads : ReadsLine state n) (l : Lent) (f
         → Lines p l (withListed h m) picture′ list′ reply′
     accepted-line h m picture′ list′ reply′ heard repaints =
         let q = passed let-in in
-        let on-it = carried-accepted p s (l .picture) (l .font) (l .list) (l .reply) h m picture′ list′ reply′ (q .1 .1 .0, (q .1 .1 .1 .1 .0, tt)) heard repaints in
+        let on-it = carried-accepted p s (l .picture) (l .font) (l .list) (l .reply) h m picture′ list′ reply′ (eqb-true _ _ (q .1 .1 .0)) (eqb-true _ _ (q .1 .1 .1 .1 .0)) heard repaints in
         line-accepted p l (withListed h m) _ _ _ q (subst (λ (x : Scanned). CarriesOn p x (l .picture) (l .font) (l .list) (l .reply) (withListed h m) picture′ list′ reply′) scans-panel on-it)
 
     pub line-turned-down : s .found ≡ true → (x : Answer) → AnswersTo (s .packet) x → (numbersOf x .number ≡ 3 → ⊥) → (number : ℕ) (state′ reply′ faults′ said′ : List ℕ)

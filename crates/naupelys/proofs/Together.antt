@@ -9,11 +9,11 @@ use Rattle.lists.proofs.Laws.{when-true, when-false}
 use Rattle.panel.specs.declared.state.Panel.{Panel}
 use Rattle.panel.specs.State.{poweredOn}
 use Rattle.answers.specs.declared.Said.{Said}
-use Rattle.answers.specs.Answer.{refusedCall}
+use Rattle.answers.specs.Answer.{refusedCall, acceptedCall}
 use Rattle.events.specs.Keys.{keySaid, keyReply, Presses}
 use Rattle.events.specs.Pins.{pinSaid, Moves}
 use Rattle.answers.proofs.Checks.{either-way, refused-by, accepted-by}
-use Rattle.picture.specs.Calls.{PowersOn, powerChecks, powerSaid, acceptedCall}
+use Rattle.picture.specs.Calls.{PowersOn, powerChecks, powerSaid}
 use Rattle.unpacking.specs.declared.state.Reading.{Reading}
 use Rattle.layout.specs.State.{bytesOf}
 use Rattle.layout.specs.Says.{numberOf, bytesSaid, noState}
@@ -55,8 +55,8 @@ module _ (state : List ℕ) (r : Reading) (reads : ReadsState state r) (yes : r 
 -- power-on returns the power-on state, refused or not
 pub power-panel : (picture font : List ℕ) → powerSaid picture font .panel ≡ poweredOn
 power-panel picture font =
-    either-way (powerChecks picture font) (λ a f. ap (λ (s : Said). s .panel) (refused-by f (refusedCall poweredOn) (acceptedCall poweredOn)))
-    (λ q. ap (λ (s : Said). s .panel) (accepted-by (powerChecks picture font) q (refusedCall poweredOn) (acceptedCall poweredOn)))
+    either-way (powerChecks picture font) (λ a f. ap (λ (s : Said). s .panel) (refused-by f (refusedCall poweredOn) (acceptedCall poweredOn 0)))
+    (λ q. ap (λ (s : Said). s .panel) (accepted-by (powerChecks picture font) q (refusedCall poweredOn) (acceptedCall poweredOn 0)))
 
 module _ (state picture font : List ℕ) (number : ℕ) (said′ : List ℕ) where
   pub power-on-refused : (length state ≡ 402 → ⊥) → (number ≡ 10) × (said′ ≡ noState) → PowerOnBytes state picture font number state picture said′

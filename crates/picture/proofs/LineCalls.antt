@@ -1,28 +1,28 @@
 -- How a line call and a power-on come out: refused by the first check that fails, or accepted.
 use Prim.Native.Nat.{ℕ, _≤_}
-use mathlib.Core.Path.{_≡_, refl, sym, _∙_, ap, subst}
-use mathlib.Core.Bool.{Bool, true, false, true≢false, _&&_}
-use mathlib.Core.List.{List, [], _∷_}
+use mathlib.Core.Path.{_≡_, sym, _∙_, ap, subst}
+use mathlib.Core.Bool.{Bool, true, false, true≢false}
+use mathlib.Core.List.{List}
 use mathlib.Core.Logic.{_≢_}
+use native.Mathlib.Omega.{arith}
 use borrow.Author.Tests.{eqb-true}
 use lib.Dec.{lit≤}
 use lib.ListN.{length}
-use Rattle.lists.specs.Tests.{when_then_else_}
 use Rattle.panel.specs.declared.state.Panel.{Panel}
 use Rattle.panel.specs.State.{poweredOn}
 use Rattle.panel.specs.Ranges.{inRanges}
 use Rattle.answers.specs.declared.Answer.{Answer}
 use Rattle.answers.specs.declared.Said.{Said}
 use Rattle.answers.specs.declared.Answer.the-variants.{Waiting}
-use Rattle.answers.specs.Answer.{numbersOf, Check, check, decided, refusedCall}
+use Rattle.answers.specs.Answer.{numbersOf, Check, check, decided, refusedCall, acceptedCall}
 use Rattle.command.specs.Hear.{scannedBy, Hears}
-use Rattle.answers.proofs.Checks.{Fails, Pass, ByNumber, refused-by, accepted-by, either-way}
+use Rattle.answers.proofs.Checks.{Fails, Pass, ByNumber, answers-by-number, refused-by, accepted-by, either-way}
 use Rattle.framing.specs.declared.scan.Scanned.{Scanned}
 use Rattle.paint.specs.Draw.{shownBy, drawn}
 use Rattle.paint.specs.Repaint.{Repaints, RepaintsSized}
 use Rattle.paint.proofs.Sizes.{sized-repaints, repaints-sized}
 use Rattle.picture.specs.declared.calls.Checked.{Checked}
-use Rattle.picture.specs.Calls.{checksOf, turnedAway, letThrough, ChecksLine, onlyPainting, CarriesOn, acceptedCall, powerChecks, PowersOn, Lent, lineChecks, heard, shownBefore, shownAfter, withListed, Lines}
+use Rattle.picture.specs.Calls.{checksOf, turnedAway, letThrough, ChecksLine, CarriesOn, powerChecks, PowersOn, Lent, lineChecks, heard, shownBefore, shownAfter, withListed, Lines}
 
 module _ (p : Panel) (l : Lent) where
   pub line-refused : {a : Answer} {r : Said} → Fails (lineChecks p l) a → r ≡ refusedCall p a → Lines p l r (l .picture) (l .list) (l .reply)
@@ -45,10 +45,17 @@ module _ (p : Panel) (s : Scanned) (picture font list reply : List ℕ) where
   carried h n picture′ list′ reply′ e d =
       (ap (λ (x : Said). withListed x n) (e .0), subst (λ (x : Said). RepaintsSized (shownBefore p) (shownBy (x .panel .body .live)) font picture list n picture′ list′) (e .0) d, e .1)
 
-  pub carried-accepted : (h : Said) (n : ℕ) (picture′ list′ reply′ : List ℕ) → Pass (onlyPainting picture list) → Hears p s reply h reply′
+  pub carried-accepted : (h : Said) (n : ℕ) (picture′ list′ reply′ : List ℕ) → length picture ≡ 640 → length list ≡ 80 → Hears p s reply h reply′
       → Repaints (shownBefore p) (shownBy (h .panel .body .live)) font picture list n picture′ list′ → CarriesOn p s picture font list reply (withListed h n) picture′ list′ reply′
-  carried-accepted h n picture′ list′ reply′ q e d =
-      carried h n picture′ list′ reply′ e (sized-repaints _ _ _ _ _ _ _ _ (eqb-true _ _ (q .0)) (eqb-true _ _ (q .1 .0)) d)
+  carried-accepted h n picture′ list′ reply′ a b e d = carried h n picture′ list′ reply′ e (sized-repaints _ _ _ _ _ _ _ _ a b d)
+
+-- each answer of the checks is a number of 10 or more
+pub plain-by-number : (inRange : Bool) (piece picture font list reply records : ℕ) → ByNumber (checksOf inRange piece picture font list reply records)
+unfolding numbersOf
+plain-by-number inRange piece picture font list reply records = (lit≤ tt, (lit≤ tt, (lit≤ tt, (lit≤ tt, (lit≤ tt, (lit≤ tt, (lit≤ tt, tt)))))))
+
+pub by-number : (p : Panel) (l : Lent) → ByNumber (lineChecks p l)
+by-number p l = plain-by-number (inRanges p) (length (l .piece)) (length (l .picture)) (length (l .font)) (length (l .list)) (length (l .reply)) (l .records)
 
 -- what comes of checks: the call is turned away by the first that fails, or all pass
 pub turned-away : (checks : List Check) → decided checks turnedAway letThrough .passes ≡ false → Fails checks (decided checks turnedAway letThrough .answer)
@@ -60,26 +67,21 @@ pub let-through : (checks : List Check) → decided checks turnedAway letThrough
 let-through checks e =
     either-way checks (λ a f. absurd (true≢false (sym e ∙ ap (λ (c : Checked). c .passes) (refused-by f turnedAway letThrough)))) (λ q. q)
 
--- whether all checks pass, tested from the first on
-abbrev pub allPass : Bool → List Check → Bool
-allPass so-far [] = so-far
-allPass so-far (check t _ ∷ checks) = allPass (so-far && t) checks
+-- the same by the answer of the first that fails, `Waiting` where none does
+module _ (checks : List Check) (numbers : ByNumber checks) (a : Answer) (e : a ≡ decided checks (λ x. x) Waiting) where
+  pub none-fails : a ≡ Waiting → record { passes = true; answer = a } ≡ decided checks turnedAway letThrough
+  unfolding numbersOf
+  none-fails w =
+      either-way checks
+      (λ b f.
+      let q : b ≡ Waiting = sym (refused-by f (λ x. x) Waiting) ∙ sym e ∙ w in
+      absurd (omega (arith, rw q at (answers-by-number numbers f))))
+      (λ q. rw w (sym (accepted-by checks q turnedAway letThrough)))
 
-fails-on : (checks : List Check) → allPass false checks ≡ false
-fails-on [] = refl
-fails-on (check t _ ∷ checks) = fails-on checks
-
-abbrev pub found : Bool → Answer → Checked
-found passes answer = record { passes = passes; answer = answer }
-
-both-found : (checks : List Check) → found (allPass true checks) (decided checks (λ a. a) Waiting) ≡ decided checks turnedAway letThrough
-unfolding decided when_then_else_
-both-found [] = refl
-both-found (check true _ ∷ checks) = both-found checks
-both-found (check false a ∷ checks) = ap (λ (b : Bool). found b a) (fails-on checks)
-
-pub found-by : (checks : List Check) (a : Answer) → a ≡ decided checks (λ a. a) Waiting → found (allPass true checks) a ≡ decided checks turnedAway letThrough
-found-by checks a e = ap (found (allPass true checks)) e ∙ both-found checks
+  pub one-fails : (a ≡ Waiting → ⊥) → turnedAway a ≡ decided checks turnedAway letThrough
+  one-fails n =
+      either-way checks (λ b f. ap turnedAway (e ∙ refused-by f (λ x. x) Waiting) ∙ sym (refused-by f turnedAway letThrough))
+      (λ q. absurd (n (e ∙ accepted-by checks q (λ x. x) Waiting)))
 
 -- the checks of a call, its panel's ranges found before
 pub checked-of : (p : Panel) (l : Lent) (inRange : Bool) (k : Checked) → inRange ≡ inRanges p
@@ -106,12 +108,7 @@ module _ (picture font : List ℕ) where
   pub power-refused : {a : Answer} {p : Panel} {r : Said} → Fails (powerChecks picture font) a → p ≡ poweredOn → r ≡ refusedCall p a → PowersOn picture font r picture
   power-refused f s e = (e ∙ rw s (sym (refused-by f _ _)), sym (refused-by f _ _))
 
-  pub power-accepted : {p : Panel} {r : Said} {picture′ : List ℕ} → Pass (powerChecks picture font) → p ≡ poweredOn → r ≡ acceptedCall p
+  pub power-accepted : {p : Panel} {r : Said} {picture′ : List ℕ} → Pass (powerChecks picture font) → p ≡ poweredOn → r ≡ acceptedCall p 0
       → picture′ ≡ drawn (shownBy (p .body .live)) font → PowersOn picture font r picture′
   power-accepted q s e d =
       (e ∙ rw s (sym (accepted-by (powerChecks picture font) q _ _)), d ∙ rw s (sym (accepted-by (powerChecks picture font) q _ _)))
-
--- each answer of the checks is a number of 10 or more
-pub by-number : (p : Panel) (l : Lent) → ByNumber (lineChecks p l)
-unfolding numbersOf
-by-number p l = (lit≤ tt, (lit≤ tt, (lit≤ tt, (lit≤ tt, (lit≤ tt, (lit≤ tt, (lit≤ tt, tt)))))))

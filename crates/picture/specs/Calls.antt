@@ -11,9 +11,9 @@ use Rattle.panel.specs.declared.state.Panel.{Panel}
 use Rattle.panel.specs.State.{poweredOn}
 use Rattle.panel.specs.Ranges.{inRanges}
 use Rattle.answers.specs.declared.Answer.{Answer}
-use Rattle.answers.specs.declared.Answer.the-variants.{Waiting, Done, StateOutOfRange, PieceTooLong, PictureSize, FontSize, ListSize, ReplySize, RegisterSize}
+use Rattle.answers.specs.declared.Answer.the-variants.{Waiting, StateOutOfRange, PieceTooLong, PictureSize, FontSize, ListSize, ReplySize, RegisterSize}
 use Rattle.answers.specs.declared.Said.{Said}
-use Rattle.answers.specs.Answer.{Check, check, decided, refusedCall}
+use Rattle.answers.specs.Answer.{Check, check, decided, refusedCall, acceptedCall}
 use Rattle.command.specs.Hear.{scannedBy, heardBy, replyBy}
 use Rattle.picture.specs.declared.calls.Checked.{Checked}
 use Rattle.paint.specs.Draw.{Shown, shownBy, drawn}
@@ -22,17 +22,13 @@ use Rattle.paint.specs.Repaint.{changed, painted, RepaintsSized}
 abbrev pub sized : List ℕ → ℕ → Answer → Check
 sized buffer size answer = check (length buffer =? size) answer
 
--- "An accepted key, pin or power-on call answers 3."
-abbrev pub acceptedCall : Panel → Said
-acceptedCall p = record { panel = p; answer = Done 0; taken = 0; dropped = 0; checked = 0; reply = 0; listed = 0 }
-
 -- "power-on 12 and 13"
 abbrev pub powerChecks : List ℕ → List ℕ → List Check
 powerChecks picture font = sized picture 640 PictureSize ∷ sized font 2048 FontSize ∷ []
 
 -- a refused power-on "still returns the power-on state"; an accepted one answers 3
 abbrev pub powerSaid : List ℕ → List ℕ → Said
-powerSaid picture font = decided (powerChecks picture font) (refusedCall poweredOn) (acceptedCall poweredOn)
+powerSaid picture font = decided (powerChecks picture font) (refusedCall poweredOn) (acceptedCall poweredOn 0)
 
 -- "Power-on draws all 640 picture bytes and has no list."
 abbrev pub powerPicture : List ℕ → List ℕ → List ℕ
@@ -95,10 +91,6 @@ shownThen p s reply = shownBy (heardBy p s reply .panel .body .live)
 
 abbrev pub alteredBy : Panel → Scanned → List ℕ → List ℕ → List ℕ
 alteredBy p s font reply = changed (shownBefore p) (shownThen p s reply) font
-
--- the two checks that painting needs
-abbrev pub onlyPainting : List ℕ → List ℕ → List Check
-onlyPainting picture list = sized picture 640 PictureSize ∷ sized list 80 ListSize ∷ []
 
 -- what `carried_on` promises of its result and of the three lent buffers
 abbrev pub CarriesOn : Panel → Scanned → List ℕ → List ℕ → List ℕ → List ℕ → Said → List ℕ → List ℕ → List ℕ → Type 0

@@ -2,9 +2,10 @@
 ghost use mathlib.Core.Path.{_≡_};
 ghost use Rattle.answers.specs.Answer.{decided};
 ghost use Rattle.answers.specs.declared.Answer.the-variants.{Waiting};
-ghost use Rattle.picture.specs.Calls.{acceptedCall, PowersOn, checksOf, ChecksLine, CarriesOn, lent, Lines};
+ghost use Rattle.picture.specs.Calls.{PowersOn, checksOf, ChecksLine, CarriesOn, lent, Lines};
 use answers::Answer;
 use answers::Said;
+use answers::accepted_call;
 use answers::refused_call;
 use framing::scan::Scanned;
 use panel::state::Panel;
@@ -21,22 +22,7 @@ pub fn power_on(picture: &mut [u8], font: &[u8]) -> Said
         return refused_call(p, Answer::FontSize);
     }
     paint::repaint::draw_all(picture, p.body.live, font);
-    accepted(p)
-}
-
-// An accepted call that takes nothing and replies nothing.
-fn accepted(p: Panel) -> Said
-    ensures { λ r. ⌜ r ≡ acceptedCall p ⌝ }
-{
-    Said {
-        panel: p,
-        answer: Answer::Done(0),
-        taken: 0,
-        dropped: 0,
-        checked: 0,
-        reply: 0,
-        listed: 0,
-    }
+    accepted_call(p, 0)
 }
 
 // Whether a line call is let through, and what it answers where it is not.
@@ -45,7 +31,7 @@ pub struct Checked {
     pub answer: Answer,
 }
 
-// The checks of a line call in the order of their numbers: what the first that fails answers.
+// The checks of a line call in the order of their numbers: what the first that fails answers, waiting where none does.
 fn first_failing(
     in_ranges: bool,
     piece: usize,
@@ -94,14 +80,16 @@ pub fn line_checked(
     ensures { λ r. ⌜ ChecksLine «in_ranges» piece picture font list reply records r ⌝ }
 {
     let answer = first_failing(in_ranges, piece, picture, font, list, reply, records);
-    let passes = in_ranges
-        & (piece <= 4096)
-        & (picture == 640)
-        & (font == 2048)
-        & (list == 80)
-        & (reply == 26)
-        & (records == 64);
-    Checked { passes, answer }
+    match answer {
+        Answer::Waiting => Checked {
+            passes: true,
+            answer,
+        },
+        _ => Checked {
+            passes: false,
+            answer,
+        },
+    }
 }
 
 // What a scan of the line found, heard, and the picture repainted. The checks are the caller's.

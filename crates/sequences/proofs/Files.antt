@@ -14,11 +14,11 @@ use Rattle.filing.specs.Filing.{Files, filedIf, total, most}
 use Rattle.filing.proofs.Theorems.{one-more}
 use Rattle.answers.specs.declared.Answer.{Answer}
 use Rattle.answers.specs.declared.Said.{Said}
-use Rattle.answers.specs.Answer.{Check, decided, refusedCall, filingOf}
+use Rattle.answers.specs.Answer.{Check, decided, refusedCall, filingOf, acceptedCall}
 use Rattle.events.specs.Keys.{keyChecks}
 use Rattle.events.specs.Pins.{pinChecks}
 use Rattle.answers.proofs.Checks.{either-way, refused-by, accepted-by}
-use Rattle.picture.specs.Calls.{acceptedCall, powerChecks, PowersOn, Lent, lent, lineChecks, heard, altered, withListed, lineSaid}
+use Rattle.picture.specs.Calls.{powerChecks, PowersOn, Lent, lent, lineChecks, heard, altered, withListed, lineSaid}
 use Rattle.whole.specs.Whole.{filesAfter, LineCall}
 use Rattle.sequences.specs.Run.{Call, line, key, pin, World, filesOf, refusedIn, Makes, Runs, done, more}
 use Rattle.sequences.proofs.Outcomes.{heard-unfiled}
@@ -74,4 +74,4 @@ module _ (font : List ℕ) where
 -- nothing is unfiled at power-on, refused or not
 pub power-unfiled : (picture font : List ℕ) (r : Said) (picture′ : List ℕ) → PowersOn picture font r picture′ → r .panel .unfiled ≡ 0
 unfolding poweredOn
-power-unfiled picture font r picture′ m = unfiled-stays poweredOn (powerChecks picture font) (acceptedCall poweredOn) r (m .0) refl
+power-unfiled picture font r picture′ m = unfiled-stays poweredOn (powerChecks picture font) (acceptedCall poweredOn 0) r (m .0) refl

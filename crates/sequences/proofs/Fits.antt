@@ -24,7 +24,7 @@ use Rattle.filing.specs.declared.Refusal.{Refusal}
 use Rattle.filing.specs.declared.Filed.{Filed}
 use Rattle.filing.specs.Filing.{Files, blank, most, filedIn, filedAt, filed, filedIf}
 use Rattle.answers.specs.declared.Said.{Said}
-use Rattle.carry.specs.Carry.{withLive, withGlyph, withText, withPin, effect, carried}
+use Rattle.carry.specs.Carry.{withGlyph, withText, withPin, liveAfter, effect, carried}
 use Rattle.command.specs.declared.hear.Stepped.{Stepped}
 use Rattle.command.specs.Step.{stepOf}
 use Rattle.command.specs.Hear.{scannedBy, heardBy}
@@ -62,37 +62,42 @@ module _ (s : Settings) (h : SettingsSized s) (d : List ℕ) where
     when-either (λ (l : List ℕ). length l ≡ 5) (length d =? 3) _ _ (λ _. length-set (s .configs) _ _ ∙ h .3) (λ _. h .3),
   )
 
--- Each command's row, in the order of `effect`.
-effect-fits : (code : ℕ) (d : List ℕ) (b : Body) → BodyFits b → BodyFits (effect code d b)
-unfolding effect
-effect-fits code d b h =
-    pick 2 record { live = h .live; boot = h .boot; last = h .last; fell = h .fell; rose = h .rose; flash = length-pasted (b .flash) 0 d ∙ h .flash } (
-    pick 4 record { live = h .live; boot = h .live; last = h .last; fell = h .fell; rose = h .rose; flash = h .flash } (
-    pick 5 record { live = h .boot; boot = h .boot; last = h .last; fell = refl; rose = refl; flash = h .flash } (
-    pick 6 (live (refl, h .live .1, h .live .2, h .live .3)) (
-    pick 9 (live (glyph-sized (b .live) (h .live) d)) (
-    pick 11 (live (h .live)) (
-    pick 12 (live (h .live)) (
-    pick 13 (live (h .live)) (
-    pick 14 (live (h .live)) (
-    pick 23 (live (h .live)) (
-    pick 24 record { live = h .live; boot = h .boot; last = h .last; fell = h .fell; rose = h .rose; flash = h .flash } (
-    pick 31 (live (text-sized (b .live) (h .live) d)) (
-    pick 34 (live (pin-sized (b .live) (h .live) d)) (
-    pick 35 record {
-      live = h .live;
-      boot = h .boot;
-      last = h .last;
-      fell = length-set (b .pins .fell) _ _ ∙ h .fell;
-      rose = length-set (b .pins .rose) _ _ ∙ h .rose;
-      flash = h .flash;
-    } h)))))))))))))
-  where
-    pick : (c : ℕ) {x y : Body} → BodyFits x → BodyFits y → BodyFits (when code =? c then x else y)
-    pick c f g = when-either BodyFits (code =? c) _ _ (λ _. f) (λ _. g)
+-- Each command's row, in the order of `liveAfter` and of `effect`.
+module _ (code : ℕ) (d : List ℕ) where
+  live-sized : (s : Settings) → SettingsSized s → SettingsSized (liveAfter code d s)
+  unfolding liveAfter
+  live-sized s h =
+      pick 6 _ _ (refl, h .1, h .2, h .3) (
+      pick 9 _ _ (glyph-sized s h d) (
+      pick 11 _ _ h (
+      pick 12 _ _ h (
+      pick 13 _ _ h (
+      pick 14 _ _ h (
+      pick 23 _ _ h (
+      pick 31 _ _ (text-sized s h d) (
+      pick 34 _ _ (pin-sized s h d) h))))))))
+    where
+      pick : (c : ℕ) (x y : Settings) → SettingsSized x → SettingsSized y → SettingsSized (when code =? c then x else y)
+      pick c x y f g = when-either SettingsSized (code =? c) x y (λ _. f) (λ _. g)
 
-    live : {s : Settings} → SettingsSized s → BodyFits (withLive b s)
-    live e = record { live = e; boot = h .boot; last = h .last; fell = h .fell; rose = h .rose; flash = h .flash }
+  effect-fits : (b : Body) → BodyFits b → BodyFits (effect code d b)
+  unfolding effect
+  effect-fits b h =
+      pick 2 record { live = h .live; boot = h .boot; last = h .last; fell = h .fell; rose = h .rose; flash = length-pasted (b .flash) 0 d ∙ h .flash } (
+      pick 4 record { live = h .live; boot = h .live; last = h .last; fell = h .fell; rose = h .rose; flash = h .flash } (
+      pick 5 record { live = h .boot; boot = h .boot; last = h .last; fell = refl; rose = refl; flash = h .flash } (
+      pick 24 record { live = h .live; boot = h .boot; last = h .last; fell = h .fell; rose = h .rose; flash = h .flash } (
+      pick 35 record {
+        live = h .live;
+        boot = h .boot;
+        last = h .last;
+        fell = length-set (b .pins .fell) _ _ ∙ h .fell;
+        rose = length-set (b .pins .rose) _ _ ∙ h .rose;
+        flash = h .flash;
+      } record { live = live-sized (b .live) (h .live); boot = h .boot; last = h .last; fell = h .fell; rose = h .rose; flash = h .flash }))))
+    where
+      pick : (c : ℕ) {x y : Body} → BodyFits x → BodyFits y → BodyFits (when code =? c then x else y)
+      pick c f g = when-either BodyFits (code =? c) _ _ (λ _. f) (λ _. g)
 
 step-fits : (b : Body) (p : Packet) → BodyFits b → BodyFits (stepOf b p .body)
 unfolding carried

@@ -46,7 +46,7 @@ unfolding carried
 step-in-range b p t (stray h) i = i
 step-in-range b p t (done l v) i =
     let e : p .kind % 64 ≡ p .kind = omega arith in
-    rw e (effect-in-range (p .kind) (contentOf p) b v i)
+    rw e (effect-in-range (p .kind) (contentOf p) v b i)
 step-in-range b p t (refused l v) i = i
 
 module _ (p : Panel) (piece out : List ℕ) (r : Said) (out′ : List ℕ) (hears : Hears p (scannedBy p piece) out r out′) where
@@ -76,7 +76,7 @@ module _ (p : Panel) (piece out : List ℕ) (r : Said) (out′ : List ℕ) (hear
       go a (packet f _ (refused l v)) = absurd (omega arith)
 
   pub hear-refused : {command : ℕ} {reason : Reason} {place : ℕ} → r .answer ≡ Refused command reason place → RepliesError command p out r out′
-  unfolding writtenLength written when_then_else_ composedLength composed
+  unfolding writtenLength written when_then_else_ composedLength composed numbersOf
   hear-refused {command} {reason} {place} a = go a (see p (scannedBy p piece) out r out′ hears)
     where
       go : {r : Said} {out′ : List ℕ} → r .answer ≡ Refused command reason place → Heard p (scannedBy p piece) out r out′ → RepliesError command p out r out′
@@ -84,5 +84,6 @@ module _ (p : Panel) (piece out : List ℕ) (r : Said) (out′ : List ℕ) (hear
       go a (packet f _ (stray h)) = let z : _≡_ {A = ℕ} 0 1 = cc in absurd (omega arith)
       go a (packet f _ (done l v)) = let z : _≡_ {A = ℕ} 0 1 = cc in absurd (omega arith)
       go a (packet f _ (refused l v)) =
-          let c : scannedBy p piece .packet .kind ≡ command = cc in
+          let e : scannedBy p piece .packet .kind ≡ command = cc in
+          let c : scannedBy p piece .packet .kind % 64 ≡ command = omega arith in
           (refl, λ n. let t = fitting out [] n (omega arith) in (when-true _ _ _ t ∙ ap (λ (k : ℕ). front (packetBytes (192 + k) []) out) c, when-true _ _ _ t))

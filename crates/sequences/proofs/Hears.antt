@@ -23,7 +23,7 @@ use Rattle.sequences.proofs.HearCalls.{withHold, hear-in-range, hear-si
 
 -- A command that the verdict allows takes a body whose live and boot settings and keys are in their ranges to such a body.
 pub effect-stays-in-range : (code : ℕ) (content : List ℕ) (b : Body) → verdictOf code content ≡ Allowed → BodyInRange b → BodyInRange (effect code content b)
-effect-stays-in-range code content b v h = effect-in-range code content b v h
+effect-stays-in-range code content b v h = effect-in-range code content v b h
 
 module _ (p : Panel) (piece reply : List ℕ) (r : Said) (reply′ : List ℕ) (heard : Hears p (scannedBy p piece) reply r reply′) where
   -- A call on the line takes a state in its ranges to one in its ranges: the hold's array has 25 bytes, whatever its count says.

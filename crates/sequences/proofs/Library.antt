@@ -1,5 +1,5 @@
 -- What holds of the C library over sequences of calls: they are the panel's own calls, on what the bytes stand for.
-use Prim.Native.Nat.{ℕ, zero, suc, _+_, _*_, _<_}
+use Prim.Native.Nat.{ℕ, zero, suc, _+_, _*_, _<_, _≤_}
 use mathlib.Core.Path.{_≡_, refl, sym, _∙_, ap, subst}
 use mathlib.Core.Logic.{_≢_, _↔_}
 use mathlib.Core.Bool.{Bool, true, false}
@@ -24,7 +24,7 @@ use Rattle.sequences.specs.Library.{Kept, Returns, refusals, Library, do
 use Rattle.sequences.proofs.Fits.{power-fits, Small, each-small}
 use Rattle.sequences.proofs.Theorems as panel
 use Rattle.naupelys.proofs.Together.{power-panel}
-use Rattle.sequences.proofs.Standing.{is-read, same-panel, rises, exactly, unlisted-stay, one-step}
+use Rattle.sequences.proofs.Standing.{is-read, same-panel, rises, exactly, unlisted-stay, refused-leaves, quiet-leaves, one-step}
 
 -- A sequence of the library's calls on bytes that stand for a world is one of the panel's own calls on that world, with the same
 -- packets refused, and the bytes stand for the world that it comes to.
@@ -93,20 +93,33 @@ module _ (font state picture faults : List ℕ) (number : ℕ) (state′ picture
         let f = panel.counts-add-up font picture picture′ (powerSaid picture font) (recordsLent faults) cs (b .0) n powered e (b .1) h in
         rw (← (b .2 .register), same-panel (b .2)) f
 
-    -- Then a line call that is not refused by number, and what it lists by the count in its 16 bytes:
-    module _ (piece list reply : List ℕ) (l : Kept) (number′ : ℕ) (m : Returns font (line piece list reply) k l number′) (below-10 : number′ < 10) where
+    -- Then a line call, and what it lists by the count in its 16 bytes:
+    module _ (piece list reply : List ℕ) (l : Kept) (number′ : ℕ) (m : Returns font (line piece list reply) k l number′) where
       abbrev count : ℕ
       count = getD (m .2) 13 0
 
-      -- the list is rising, so that each cell stands in it once,
-      pub list-rises : (i j : ℕ) → i < j → j < count → getD (m .0) i 0 < getD (m .0) j 0
-      list-rises = rises font (as-the-panel made started started-stands .2) piece list reply l number′ m below-10
+      -- if it is not refused by number, the list is rising, so that each cell stands in it once,
+      pub list-rises : number′ < 10 → (i j : ℕ) → i < j → j < count → getD (m .0) i 0 < getD (m .0) j 0
+      list-rises = rises font (as-the-panel made started started-stands .2) piece list reply l number′ m
 
       -- it holds exactly the cells whose drawing from the state before and from the state after differ,
-      pub list-is-the-change : (cell : ℕ) → cell < 80
+      pub list-is-the-change : number′ < 10 → (cell : ℕ) → cell < 80
           → ListedIn (m .0) count cell ↔ (cellDrawn (shownBy (panelOf (k .state) .body .live)) font cell ≢ cellDrawn (shownBy (panelOf (l .state) .body .live)) font cell)
-      list-is-the-change = exactly font (as-the-panel made started started-stands .2) piece list reply l number′ m below-10
+      list-is-the-change = exactly font (as-the-panel made started started-stands .2) piece list reply l number′ m
 
       -- and bytes of cells that are not listed are as they came.
-      pub no-other-byte : (cell j : ℕ) → cell < 80 → j < 8 → (ListedIn (m .0) count cell → ⊥) → getD (l .picture) (placeOf cell j) 0 ≡ getD (k .picture) (placeOf cell j) 0
-      no-other-byte = unlisted-stay font (as-the-panel made started started-stands .2) piece list reply l number′ m below-10
+      pub no-other-byte : number′ < 10 → (cell j : ℕ) → cell < 80 → j < 8 → (ListedIn (m .0) count cell → ⊥)
+          → getD (l .picture) (placeOf cell j) 0 ≡ getD (k .picture) (placeOf cell j) 0
+      no-other-byte = unlisted-stay font (as-the-panel made started started-stands .2) piece list reply l number′ m
+
+      -- A refused packet changes of the state only the held bytes and the unfiled number; nothing is listed or painted.
+      pub refused-changes-only : number′ ≡ 4 → (panelOf (l .state) .body ≡ panelOf (k .state) .body) × (l .picture ≡ k .picture) × (m .0 ≡ list)
+      refused-changes-only = refused-leaves font (as-the-panel made started started-stands .2) piece list reply l number′ m
+
+      -- Waiting and a stray change the held bytes only.
+      pub waiting-or-stray-changes-only : number′ ≤ 2
+          → ((panelOf (l .state) .body ≡ panelOf (k .state) .body) × (l .picture ≡ k .picture) × (m .0 ≡ list))
+          × (panelOf (l .state) .unfiled ≡ panelOf (k .state) .unfiled)
+          × (m .1 ≡ reply)
+          × (l .faults ≡ k .faults)
+      waiting-or-stray-changes-only = quiet-leaves font (as-the-panel made started started-stands .2) piece list reply l number′ m

@@ -14,7 +14,7 @@ use Rattle.lists.proofs.Laws.{when-either, when-true, when-false}
 use Rattle.panel.specs.declared.state.Panel.{Panel}
 use Rattle.panel.specs.State.{poweredOn}
 use Rattle.answers.specs.declared.Said.{Said}
-use Rattle.answers.specs.Answer.{numbersOf}
+use Rattle.answers.specs.Answer.{numbersOf, acceptedCall}
 use Rattle.command.specs.Hear.{scannedBy, heardBy, replyBy}
 use Rattle.answers.proofs.Checks.{accepted-by, call-passed}
 use Rattle.framing.specs.declared.scan.Scanned.{Scanned}
@@ -22,7 +22,7 @@ use Rattle.command.proofs.Parts.{step-answer, below}
 use Rattle.paint.specs.Draw.{cellDrawn, shownBy, placeOf, drawn}
 use Rattle.paint.specs.Repaint.{painted, ListedIn}
 use Rattle.paint.proofs.Changes.{list-is-the-change, listed-differs, no-other-byte}
-use Rattle.picture.specs.Calls.{acceptedCall, powerChecks, PowersOn, Lent, lineChecks, heard, shownBefore, shownAfter, altered, withListed, Lines}
+use Rattle.picture.specs.Calls.{powerChecks, PowersOn, Lent, lineChecks, heard, shownBefore, shownAfter, altered, withListed, Lines}
 use lib.Seq.{getD-append-add, getD-drop}
 use Rattle.packets.specs.declared.packet.Packet.{Packet}
 use Rattle.packets.specs.Packet.{packetBytes, composable, composedLength, composed, contentOf}
@@ -69,7 +69,7 @@ pub power-draws : (picture font : List ℕ) (r : Said) (picture′ : List ℕ) �
     → picture′ ≡ drawn (shownBy (r .panel .body .live)) font
 unfolding numbersOf
 power-draws picture font r picture′ m a =
-    let q = call-passed poweredOn (powerChecks picture font) (acceptedCall poweredOn) r (m .0) (lit≤ tt, (lit≤ tt, tt)) a in
+    let q = call-passed poweredOn (powerChecks picture font) (acceptedCall poweredOn 0) r (m .0) (lit≤ tt, (lit≤ tt, tt)) a in
     m .1 ∙ accepted-by (powerChecks picture font) q _ _ ∙ sym (ap (λ (s : Said). drawn (shownBy (s .panel .body .live)) font) (m .0 ∙ accepted-by (powerChecks picture font) q _ _))
 
 -- what is heard is answered by a number below 10

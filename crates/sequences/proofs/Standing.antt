@@ -268,6 +268,26 @@ module _ (font : List ℕ) {k : Kept} {w : World} (s : Stands k w) where
           rw (picture-is, s .picture)
           (calls.no-other-byte p o (w .register) (withUnfiled t (files .unfiled)) _ _ _ _ (refl, refl, refl, refl, refl) said-below cell j h g (rw (list-is, listed-is) at none))
 
+    -- what a refused packet leaves, and what waiting or a stray does
+    abbrev pub BodyStays : Type 0
+    BodyStays = (panelOf (l .state) .body ≡ panelOf (k .state) .body) × (l .picture ≡ k .picture) × (m .0 ≡ list)
+
+    pub refused-leaves : n ≡ 4 → BodyStays
+    refused-leaves e =
+        let c = calls.refused-changes-only p o (w .register) (withUnfiled t (files .unfiled)) _ _ _ _ (refl, refl, refl, refl, refl) (sym number-is ∙ e) in
+        (ap (λ (q : Panel). q .body) (same-panel stands) ∙ c .0 ∙ sym (ap (λ (q : Panel). q .body) (same-panel s)), picture-is ∙ c .2 ∙ sym (s .picture), list-is ∙ c .3)
+
+    pub quiet-leaves : n ≤ 2 → BodyStays × (panelOf (l .state) .unfiled ≡ panelOf (k .state) .unfiled) × (m .1 ≡ reply) × (l .faults ≡ k .faults)
+    unfolding faultsAfter
+    quiet-leaves h =
+        let a : numberOf t ≤ 2 = rw number-is at h in
+        let c = calls.waiting-or-stray-changes-only p o (w .register) (withUnfiled t (files .unfiled)) _ _ _ _ (refl, refl, refl, refl, refl) a in (
+          (ap (λ (q : Panel). q .body) (same-panel stands) ∙ c .0 .0 ∙ sym (ap (λ (q : Panel). q .body) (same-panel s)), picture-is ∙ c .0 .2 ∙ sym (s .picture), list-is ∙ c .0 .3),
+          ap (λ (q : Panel). q .unfiled) (same-panel stands) ∙ c .1 .0 ∙ sym (ap (λ (q : Panel). q .unfiled) (same-panel s)),
+          m .3 .4 ∙ on-call reply (λ (q : Panel) (x : Lent). lineReply q x) ∙ c .1 .1,
+          faults-is ∙ when-false _ _ _ (ne-eqb (numberOf t) 4 (λ e. absurd (omega arith))),
+        )
+
 pub one-step : (font : List ℕ) (c : Call) {k l : Kept} {w : World} (n : ℕ) → Stands k w → Returns font c k l n → (v : World) × Makes font c w v (refusals n) × Stands l v
 one-step font (line piece list reply) n s m = line-step font s piece list reply _ n m
 one-step font (key number down reply) n s m = key-step font s number down reply _ n m

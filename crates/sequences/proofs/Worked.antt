@@ -13,7 +13,7 @@ use Rattle.verdict.specs.Verdict.{inRange, firstOut, isReboot, wholeVerdict, ve
 use Rattle.glyphs.specs.Glyphs.{nestedOf, flatFirst, flatOf}
 use Rattle.panel.specs.State.{factorySettings, poweredOn}
 use Rattle.panel.specs.Ranges.{numbersInRange, settingsInRange, keysInRange, inRanges}
-use Rattle.carry.specs.Carry.{effect, memory, edges, replyData, carried}
+use Rattle.carry.specs.Carry.{liveAfter, effect, memory, edges, replyData, carried}
 use Rattle.answers.specs.Answer.{numbersOf, decided}
 use Rattle.command.specs.Step.{ruled, stepOf}
 use Rattle.replies.specs.Reply.{writtenLength, written}
@@ -23,5 +23,5 @@ use Rattle.paint.specs.Repaint.{same, changedBelow}
 use Rattle.sequences.specs.Worked.{told, piecesOf, expectedOf, table}
 
 pub all-said : map (λ c. told poweredOn (piecesOf c)) table ≡ map expectedOf table
-unfolding when_then_else_ all firstBelow pasted afterBit afterByte composedLength composed checksumRight judge settleAt settle goOn scan scannedOf lookUp configAllowed inRange firstOut isReboot wholeVerdict verdictBy nestedOf flatFirst flatOf factorySettings poweredOn numbersInRange settingsInRange keysInRange inRanges effect memory edges replyData carried numbersOf decided ruled stepOf writtenLength written heardBy replyBy sourceOf drawnFrom codeDrawn same changedBelow told
+unfolding when_then_else_ all firstBelow pasted afterBit afterByte composedLength composed checksumRight judge settleAt settle goOn scan scannedOf lookUp configAllowed inRange firstOut isReboot wholeVerdict verdictBy nestedOf flatFirst flatOf factorySettings poweredOn numbersInRange settingsInRange keysInRange inRanges liveAfter effect memory edges replyData carried numbersOf decided ruled stepOf writtenLength written heardBy replyBy sourceOf drawnFrom codeDrawn same changedBelow told
 all-said = refl

@@ -1,9 +1,8 @@
-use mathlib.Core.Path.{_∙_, ap}
+use mathlib.Core.Path.{_∙_}
 use borrow.Author.Tests.{ne-eqb}
 use borrow.Author.Needs.{needs}
 use Rattle.lists.specs.Tests.{when_then_else_}
-use Rattle.carry.specs.Carry.{withLive, effect}
-use Rattle.carry.proofs.Lives.{live-alone}
+use Rattle.carry.specs.Carry.{effect}
 use Rattle.carry.proofs.effect.effect_of.Statement.{statement}
 use Rattle.carry.proofs.effect.effect_of.Tie as tie
 
@@ -55,12 +54,11 @@ unfolding effect when_then_else_
 returns-5 c = c .with-pins .ensures ∙ rw (c .before .read-pin .ensures, c .before .before .match .keys5)
 
 returns-6 : tie.Need-returns-6
+unfolding effect when_then_else_
 returns-6 c =
-    let a = c .before .before .before .before .args in
     let r = c .before .before .match .rest in
     c .with-live .ensures
-    ∙ ap (withLive (a .b)) (c .before .live-after .ensures)
-    ∙ live-alone (a .code) (a .content .now) (a .b) (ne-eqb _ 2 (r .0 .0 .0 .0 .1)) (ne-eqb _ 4 (r .0 .0 .0 .1)) (ne-eqb _ 5 (r .0 .0 .1)) (ne-eqb _ 24 (r .0 .1)) (ne-eqb _ 35 (r .1))
+    ∙ rw (c .before .live-after .ensures, ne-eqb _ 2 (r .0 .0 .0 .0 .1), ne-eqb _ 4 (r .0 .0 .0 .1), ne-eqb _ 5 (r .0 .0 .1), ne-eqb _ 24 (r .0 .1), ne-eqb _ 35 (r .1))
 
 pub effect-of-spec : {M : Type 1} → statement M
 effect-of-spec =

@@ -1,6 +1,6 @@
 use mathlib.Core.Path.{sym, _∙_}
-use native.Mathlib.Omega.{arith}
 use borrow.Author.Needs.{needs}
+use Rattle.answers.specs.Answer.{numbersOf}
 use Rattle.command.proofs.Parts.{step-done, step-refused, step-else}
 use Rattle.command.proofs.hear.step.Statement.{statement}
 use Rattle.command.proofs.hear.step.Tie as tie
@@ -18,10 +18,7 @@ enum-known-answer : tie.Need-enum-known-answer
 enum-known-answer c = search needs
 
 add-bare : tie.Need-add-bare
-add-bare c =
-    let a = c .before .before .before .before .args in
-    let f = step-refused (a .b) (a .p) (sym (c .before .before .before .answer-to .ensures) ∙ c .before .answer .given .1) .0 in
-    omega arith
+add-bare c = search needs
 
 bare-requires : tie.Need-bare-requires
 bare-requires c κs = search needs
@@ -36,10 +33,11 @@ returns c =
     rw (c .before .before .carry-out .ensures, n) (sym (step-done (a .b) (a .p) (sym n ∙ c .before .before .before .enum-told .given .1)))
 
 returns-2 : tie.Need-returns-2
+unfolding numbersOf
 returns-2 c =
     let a = c .before .before .before .before .before .args in
     let e = sym (c .before .before .before .before .answer-to .ensures) ∙ c .before .before .answer .given .1 in
-    rw (c .bare .ensures, ← e) (sym (step-refused (a .b) (a .p) e .1))
+    rw (c .bare .ensures) (rw e at (sym (step-refused (a .b) (a .p) e)))
 
 returns-3 : tie.Need-returns-3
 returns-3 c =

@@ -45,24 +45,20 @@ report-requires c κs =
     let a = e .before .before .before .before .args in
     key-number (a .p) (a .number) (a .down) (a .reply .now) (passed e)
 
-with-keys-requires : tie.Need-with-keys-requires
-with-keys-requires c κs = search needs
-
-accepted-requires : tie.Need-accepted-requires
-accepted-requires c κs = search needs
+accepted-call-requires : tie.Need-accepted-call-requires
+accepted-call-requires c κs = search needs
 
 same-length : tie.Need-same-length
 same-length c = search needs
 
 returns-2 : tie.Need-returns-2
 returns-2 c =
-    let w = c .before in
-    let r = w .before .before .before in
+    let r = c .before .before .before .before in
     let m = r .before .before in
     let e = m .before .before in
     let a = e .before .before .before .before .args in
-    key-accepted (a .p) (a .number) (a .down) (a .reply .now) (passed e) _ _ _ _ _ _ (m .before .after-event .ensures) (w .with-keys .ensures) (m .mask-for .ensures)
-    (r .report .ensures) (c .accepted .ensures)
+    key-accepted (a .p) (a .number) (a .down) (a .reply .now) (passed e) _ _ _ _ _ (m .before .after-event .ensures) (m .mask-for .ensures) (r .report .ensures)
+    (c .accepted-call .ensures)
 
 pub key-spec : {M : Type 1} → statement M
 key-spec =
@@ -76,7 +72,6 @@ key-spec =
     after-event-requires
     mask-for-requires
     report-requires
-    with-keys-requires
-    accepted-requires
+    accepted-call-requires
     same-length
     returns-2)

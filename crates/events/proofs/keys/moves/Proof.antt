@@ -2,7 +2,8 @@ use mathlib.Core.Path.{_≡_, sym, ap}
 use mathlib.Core.Bool.{Bool, true, not, _&&_, and-eq-true-iff, Bool·beq}
 use borrow.Author.Tests.{leb-true, not-true, not-false}
 use Rattle.lists.specs.Tests.{_≤?_, _=?_}
-use Rattle.events.specs.Keys.{isOn, early}
+use Rattle.events.specs.Plain.{early}
+use Rattle.events.specs.Keys.{isOn}
 use Rattle.events.proofs.keys.moves.Statement.{statement}
 use Rattle.events.proofs.keys.moves.Tie as tie
 

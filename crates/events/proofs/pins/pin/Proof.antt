@@ -1,11 +1,12 @@
-use mathlib.Core.Path.{_≡_, sym, _∙_, ap}
+use mathlib.Core.Path.{_≡_, sym, _∙_}
 use mathlib.Core.Bool.{true}
 use native.Mathlib.Omega.{arith}
 use borrow.Author.Needs.{needs}
 use borrow.Author.Tests.{not-true, not-false, le-leb, lt-leb}
 use Rattle.panel.specs.Ranges.{inRanges}
 use Rattle.carry.specs.Carry.{withPins}
-use Rattle.events.specs.Keys.{withBody, acceptedEvent}
+use Rattle.answers.specs.Answer.{acceptedCall}
+use Rattle.events.specs.Keys.{withBody}
 use Rattle.answers.proofs.Checks.{here, later, refused-by, accepted-by}
 use Rattle.events.proofs.pins.pin.Statement.{statement}
 use Rattle.events.proofs.pins.pin.Tie as tie
@@ -33,19 +34,16 @@ returns-2 c =
 after-event-requires : tie.Need-after-event-requires
 after-event-requires c κs = omega arith
 
-with-pins-requires : tie.Need-with-pins-requires
-with-pins-requires c κs = search needs
-
-accepted-requires : tie.Need-accepted-requires
-accepted-requires c κs = search needs
+accepted-call-requires : tie.Need-accepted-call-requires
+accepted-call-requires c κs = search needs
 
 returns-3 : tie.Need-returns-3
 returns-3 c =
     let v = c .before .before in
     let k = v .before in
     let a = k .before .before .before .args in
-    let e = c .before .with-pins .ensures ∙ ap (withPins (a .p .body)) (v .after-event .ensures) in
-    c .accepted .ensures ∙ (λ i. acceptedEvent (withBody (a .p) (e i)) 0) ∙ sym (accepted-by _ (in-range (k .before), (le-leb _ _ (k .if2 .left), tt)) _ _)
+    let e = v .after-event .ensures in
+    c .accepted-call .ensures ∙ (λ i. acceptedCall (withBody (a .p) (withPins (a .p .body) (e i))) 0) ∙ sym (accepted-by _ (in-range (k .before), (le-leb _ _ (k .if2 .left), tt)) _ _)
 
 pub pin-spec : {M : Type 1} → statement M
 pin-spec =
@@ -57,6 +55,5 @@ pin-spec =
     refused-call-requires-2
     returns-2
     after-event-requires
-    with-pins-requires
-    accepted-requires
+    accepted-call-requires
     returns-3)

@@ -28,8 +28,8 @@ returns-2 c =
 draw-all-requires : tie.Need-draw-all-requires
 draw-all-requires c κs = search needs
 
-accepted-requires : tie.Need-accepted-requires
-accepted-requires c κs = search needs
+accepted-call-requires : tie.Need-accepted-call-requires
+accepted-call-requires c κs = search needs
 
 same-length : tie.Need-same-length
 same-length c = search needs
@@ -40,7 +40,7 @@ returns-3 c =
     let k = t .before in
     let o = k .before in
     let a = o .before .before .before .args in
-    power-accepted (a .picture .now) (a .font .now) (eq-eqb _ _ (k .if1 .left), (eq-eqb _ _ (t .if2 .left), tt)) (o .powered-on .ensures) (c .accepted .ensures)
+    power-accepted (a .picture .now) (a .font .now) (eq-eqb _ _ (k .if1 .left), (eq-eqb _ _ (t .if2 .left), tt)) (o .powered-on .ensures) (c .accepted-call .ensures)
     (sized-draws _ _ (a .picture .now) _ (k .if1 .left) (c .before .before .before .draw-all .ensures))
 
 pub power-on-spec : {M : Type 1} → statement M
@@ -53,6 +53,6 @@ power-on-spec =
     refused-call-requires-2
     returns-2
     draw-all-requires
-    accepted-requires
+    accepted-call-requires
     same-length
     returns-3)
