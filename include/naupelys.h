@@ -7,6 +7,9 @@
  * written by every call. A pointer must point to as many bytes as its length says (and `said` to 16); a pointer whose length
  * is 0 is not followed. No two lent buffers may overlap, but for those that are `const`.
  *
+ * From a power-on that returns 3 on, with the same font and the state and the picture lent back as the last call left them, the
+ * picture is after every call the one that the state draws.
+ *
  * The number that a call returns (also in said[0]); the lowest that applies is given:
  *
  *    1  waiting, the piece is used up        line

@@ -7,7 +7,6 @@ use Rattle.lists.proofs.Theorems.{one, and}
 use Rattle.panel.specs.declared.state.Panel.{Panel}
 use Rattle.answers.specs.declared.Said.{Said}
 use Rattle.picture.specs.Calls.{PowersOn, Lent, ChecksLine, Lines}
-use Rattle.picture.proofs.LineCalls as calls
 
 pub power-on-determined : (picture font : List ℕ) → Determined (λ (x : Said × List ℕ). PowersOn picture font (x .0) (x .1))
 power-on-determined picture font = and (one _) (one _)

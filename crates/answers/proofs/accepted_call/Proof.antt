@@ -1,8 +1,6 @@
 use borrow.Author.Needs.{needs}
 use Rattle.answers.proofs.accepted_call.Statement.{statement}
 use Rattle.answers.proofs.accepted_call.Tie as tie
-use Rattle.answers.proofs.accepted_call.Reads as reads
-use Rattle.answers.proofs.accepted_call.Lts as lts
 
 returns : tie.Need-returns
 returns c = search needs

@@ -1,9 +1,6 @@
 use borrow.Author.Needs.{needs}
 use Rattle.emulator.proofs.read_all.Statement.{statement}
 use Rattle.emulator.proofs.read_all.Tie as tie
-use Rattle.emulator.proofs.read_all.Reads as reads
-use Rattle.emulator.proofs.read_all.Lts as lts
-use Rattle.emulator.proofs.read_some.Reads as read-some-reads
 
 abbrev Inv-loop : tie.InvT-loop
 Inv-loop font a₀ turns₀ a turns = Unit {0}

@@ -11,10 +11,6 @@ use Rattle.layout.specs.Faults.{recordsOf, registerOf}
 use Rattle.layout.proofs.Records.{read-turn, read-all}
 use Rattle.faults.proofs.read.Statement.{statement}
 use Rattle.faults.proofs.read.Tie as tie
-use Rattle.faults.proofs.read.Reads as reads
-use Rattle.faults.proofs.read.Lts as lts
-use Rattle.faults.proofs.record_at.Reads as record-at-reads
-use Rattle.filing.proofs.empty.Reads as empty-reads
 
 abbrev Inv-loop : tie.InvT-loop
 Inv-loop faults records₀ i₀ records i = (i ≤ 64) × (records ≡ recordsOf i faults ++ drop i records₀)

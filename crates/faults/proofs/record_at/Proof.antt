@@ -1,9 +1,6 @@
 use borrow.Author.Needs.{needs}
 use Rattle.faults.proofs.record_at.Statement.{statement}
 use Rattle.faults.proofs.record_at.Tie as tie
-use Rattle.faults.proofs.record_at.Reads as reads
-use Rattle.faults.proofs.record_at.Lts as lts
-use Rattle.layout.proofs.words.word_of.Reads as word-of-reads
 
 mul-k : tie.Need-mul-k
 mul-k c = search needs

@@ -1,9 +1,6 @@
 use borrow.Author.Needs.{needs}
 use Rattle.faults.proofs.record_bytes.Statement.{statement}
 use Rattle.faults.proofs.record_bytes.Tie as tie
-use Rattle.faults.proofs.record_bytes.Reads as reads
-use Rattle.faults.proofs.record_bytes.Lts as lts
-use Rattle.layout.proofs.words.word_bytes.Reads as word-bytes-reads
 
 word-bytes-requires : tie.Need-word-bytes-requires
 word-bytes-requires c κs = search needs

@@ -10,10 +10,6 @@ use Rattle.layout.specs.Faults.{recordsBytes, faultsWith}
 use Rattle.layout.proofs.Records.{write-turn, length-bytes}
 use Rattle.faults.proofs.write.Statement.{statement}
 use Rattle.faults.proofs.write.Tie as tie
-use Rattle.faults.proofs.write.Reads as reads
-use Rattle.faults.proofs.write.Lts as lts
-use Rattle.faults.proofs.record_bytes.Reads as record-bytes-reads
-use Rattle.lists.proofs.paste.Reads as paste-reads
 
 abbrev Inv-loop : tie.InvT-loop
 Inv-loop faults₀ records i₀ faults i = (i ≤ 64) × (faults ≡ front (recordsBytes i records) faults₀) × (length faults ≡ 448)

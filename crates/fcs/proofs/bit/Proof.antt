@@ -4,8 +4,6 @@ use Rattle.lists.proofs.Laws.{when-true, when-false}
 use Rattle.fcs.specs.Fcs.{afterBit}
 use Rattle.fcs.proofs.bit.Statement.{statement}
 use Rattle.fcs.proofs.bit.Tie as tie
-use Rattle.fcs.proofs.bit.Reads as reads
-use Rattle.fcs.proofs.bit.Lts as lts
 
 returns : tie.Need-returns
 unfolding afterBit

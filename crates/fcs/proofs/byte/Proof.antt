@@ -6,9 +6,6 @@ use native.Mathlib.Omega.{arith}
 use borrow.Author.Needs.{needs}
 use Rattle.fcs.proofs.byte.Statement.{statement}
 use Rattle.fcs.proofs.byte.Tie as tie
-use Rattle.fcs.proofs.byte.Reads as reads
-use Rattle.fcs.proofs.byte.Lts as lts
-use Rattle.fcs.proofs.bit.Reads as bit-reads
 
 abbrev Inv-loop : tie.InvT-loop
 Inv-loop c b r₀ i₀ r i = (i ≤ 8) × (r ≡ afterBits i r₀)

@@ -8,9 +8,6 @@ use Rattle.fcs.specs.Fcs.{afterByte, afterBytes}
 use borrow.Author.Needs.{needs}
 use Rattle.fcs.proofs.run.Statement.{statement}
 use Rattle.fcs.proofs.run.Tie as tie
-use Rattle.fcs.proofs.run.Reads as reads
-use Rattle.fcs.proofs.run.Lts as lts
-use Rattle.fcs.proofs.byte.Reads as byte-reads
 
 turn : (bytes : List ℕ) (c i r all : ℕ) → i < length bytes → r ≡ afterByte c (getD bytes i 0) → afterBytes c (drop i bytes) ≡ all → afterBytes r (drop (i + 1) bytes) ≡ all
 turn bytes c i r all h e g =

@@ -1,8 +1,6 @@
 use borrow.Author.Needs.{needs}
 use Rattle.filing.proofs.empty.Statement.{statement}
 use Rattle.filing.proofs.empty.Tie as tie
-use Rattle.filing.proofs.empty.Reads as reads
-use Rattle.filing.proofs.empty.Lts as lts
 
 returns : tie.Need-returns
 returns c = search needs

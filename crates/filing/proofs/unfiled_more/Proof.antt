@@ -1,8 +1,6 @@
 use borrow.Author.Needs.{needs}
 use Rattle.filing.proofs.unfiled_more.Statement.{statement}
 use Rattle.filing.proofs.unfiled_more.Tie as tie
-use Rattle.filing.proofs.unfiled_more.Reads as reads
-use Rattle.filing.proofs.unfiled_more.Lts as lts
 
 add-result : tie.Need-add-result
 add-result c = search needs

@@ -5,9 +5,6 @@ use native.Mathlib.Omega.{arith}
 use borrow.Author.Needs.{needs}
 use Rattle.glyphs.proofs.eight.Statement.{statement}
 use Rattle.glyphs.proofs.eight.Tie as tie
-use Rattle.glyphs.proofs.eight.Reads as reads
-use Rattle.glyphs.proofs.eight.Lts as lts
-use Rattle.lists.proofs.at.Reads as at-reads
 
 abbrev Inv-loop : tie.InvT-loop
 Inv-loop bytes from rows₀ k₀ rows k = (k ≤ 8) × (rows ≡ eightFirst bytes from k)

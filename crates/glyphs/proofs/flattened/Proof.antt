@@ -10,9 +10,6 @@ use native.Mathlib.Omega.{arith}
 use borrow.Author.Needs.{needs}
 use Rattle.glyphs.proofs.flattened.Statement.{statement}
 use Rattle.glyphs.proofs.flattened.Tie as tie
-use Rattle.glyphs.proofs.flattened.Reads as reads
-use Rattle.glyphs.proofs.flattened.Lts as lts
-use Rattle.lists.proofs.paste.Reads as paste-reads
 
 abbrev Inv-loop : tie.InvT-loop
 Inv-loop glyphs flat₀ g₀ flat g = (g ≤ 8) × (flat ≡ front (flatFirst g glyphs) (replicate 64 0)) × (length flat ≡ 64)

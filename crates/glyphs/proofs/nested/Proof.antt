@@ -5,9 +5,6 @@ use native.Mathlib.Omega.{arith}
 use borrow.Author.Needs.{needs}
 use Rattle.glyphs.proofs.nested.Statement.{statement}
 use Rattle.glyphs.proofs.nested.Tie as tie
-use Rattle.glyphs.proofs.nested.Reads as reads
-use Rattle.glyphs.proofs.nested.Lts as lts
-use Rattle.glyphs.proofs.eight.Reads as eight-reads
 
 abbrev Inv-loop : tie.InvT-loop
 Inv-loop flat glyphs₀ n₀ glyphs n = (n ≤ 8) × (glyphs ≡ nestedFirst flat n)

@@ -4,8 +4,6 @@ use native.Mathlib.Omega.{arith}
 use borrow.Author.Needs.{needs}
 use Rattle.glyphs.proofs.set.Statement.{statement}
 use Rattle.glyphs.proofs.set.Tie as tie
-use Rattle.glyphs.proofs.set.Reads as reads
-use Rattle.glyphs.proofs.set.Lts as lts
 
 mul-g : tie.Need-mul-g
 mul-g c = search needs

@@ -1,9 +1,6 @@
 use borrow.Author.Needs.{needs}
 use Rattle.line.proofs.read_all.Statement.{statement}
 use Rattle.line.proofs.read_all.Tie as tie
-use Rattle.line.proofs.read_all.Reads as reads
-use Rattle.line.proofs.read_all.Lts as lts
-use Rattle.line.proofs.read_some.Reads as read-some-reads
 
 abbrev Inv-loop : tie.InvT-loop
 Inv-loop font w₀ turns₀ w turns = Unit {0}

@@ -14,15 +14,6 @@ use Rattle.linecall.proofs.Together.{repaint-of}
 use borrow.Author.Needs.{needs}
 use Rattle.linecall.proofs.carried_out.Statement.{statement}
 use Rattle.linecall.proofs.carried_out.Tie as tie
-use Rattle.linecall.proofs.carried_out.Reads as reads
-use Rattle.linecall.proofs.carried_out.Lts as lts
-use Rattle.answers.proofs.told.Reads as told-reads
-use Rattle.carry.proofs.carry.carry_out.Reads as carry-out-reads
-use Rattle.replies.proofs.reply_with.Reads as reply-with-reads
-use Rattle.layout.proofs.says.write.Reads as says-write-reads
-use Rattle.packing.proofs.state.write.Reads as state-write-reads
-use Rattle.paint.proofs.repaint.repaint.Reads as repaint-reads
-use Rattle.unpacking.proofs.state.read.Reads as read-reads
 
 read-requires : tie.Need-read-requires
 read-requires c κs = search needs

@@ -3,12 +3,6 @@ use borrow.Author.Tests.{not-true, not-false}
 use borrow.Author.Needs.{needs}
 use Rattle.linecall.proofs.file.Statement.{statement}
 use Rattle.linecall.proofs.file.Tie as tie
-use Rattle.linecall.proofs.file.Reads as reads
-use Rattle.linecall.proofs.file.Lts as lts
-use Rattle.answers.proofs.to_file.Reads as to-file-reads
-use Rattle.faults.proofs.read.Reads as read-reads
-use Rattle.faults.proofs.write.Reads as write-reads
-use Rattle.register.proofs.run.file_in.Reads as file-in-reads
 
 to-file-requires : tie.Need-to-file-requires
 to-file-requires c κs = search needs

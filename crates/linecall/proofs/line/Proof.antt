@@ -10,18 +10,6 @@ use Rattle.linecall.proofs.Together.{line-turned-away, line-waited, lin
 use borrow.Author.Needs.{needs}
 use Rattle.linecall.proofs.line.Statement.{statement}
 use Rattle.linecall.proofs.line.Tie as tie
-use Rattle.linecall.proofs.line.Reads as reads
-use Rattle.linecall.proofs.line.Lts as lts
-use Rattle.answers.proofs.told.Reads as told-reads
-use Rattle.replies.proofs.answer_to.Reads as answer-to-reads
-use Rattle.framing.proofs.scan.scan.Reads as scan-reads
-use Rattle.linecall.proofs.carried_out.Reads as carried-out-reads
-use Rattle.linecall.proofs.records_in.Reads as records-in-reads
-use Rattle.layout.proofs.says.refused.Reads as refused-reads
-use Rattle.linecall.proofs.turned_down.Reads as turned-down-reads
-use Rattle.linecall.proofs.waited.Reads as waited-reads
-use Rattle.picture.proofs.calls.line_checked.Reads as line-checked-reads
-use Rattle.unpacking.proofs.state.read_line.Reads as read-line-reads
 
 read-line-requires : tie.Need-read-line-requires
 read-line-requires c κs = search needs

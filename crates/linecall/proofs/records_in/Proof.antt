@@ -4,8 +4,6 @@ use Rattle.lists.proofs.Laws.{when-true, when-false}
 use mathlib.Core.Path.{sym}
 use Rattle.linecall.proofs.records_in.Statement.{statement}
 use Rattle.linecall.proofs.records_in.Tie as tie
-use Rattle.linecall.proofs.records_in.Reads as reads
-use Rattle.linecall.proofs.records_in.Lts as lts
 
 returns : tie.Need-returns
 unfolding recordsIn

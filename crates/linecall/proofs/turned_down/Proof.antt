@@ -7,13 +7,6 @@ use Rattle.layout.specs.Says.{saidBytes}
 use borrow.Author.Needs.{needs}
 use Rattle.linecall.proofs.turned_down.Statement.{statement}
 use Rattle.linecall.proofs.turned_down.Tie as tie
-use Rattle.linecall.proofs.turned_down.Reads as reads
-use Rattle.linecall.proofs.turned_down.Lts as lts
-use Rattle.answers.proofs.told.Reads as told-reads
-use Rattle.replies.proofs.refuse.Reads as refuse-reads
-use Rattle.layout.proofs.says.write.Reads as write-reads
-use Rattle.linecall.proofs.file.Reads as file-reads
-use Rattle.packing.proofs.state.write_line.Reads as write-line-reads
 
 refuse-requires : tie.Need-refuse-requires
 refuse-requires c κs = search needs

@@ -5,11 +5,6 @@ use Rattle.layout.specs.Says.{saidBytes}
 use borrow.Author.Needs.{needs}
 use Rattle.linecall.proofs.waited.Statement.{statement}
 use Rattle.linecall.proofs.waited.Tie as tie
-use Rattle.linecall.proofs.waited.Reads as reads
-use Rattle.linecall.proofs.waited.Lts as lts
-use Rattle.answers.proofs.told.Reads as told-reads
-use Rattle.layout.proofs.says.write.Reads as write-reads
-use Rattle.packing.proofs.state.write_line.Reads as write-line-reads
 
 write-line-requires : tie.Need-write-line-requires
 write-line-requires c κs = search needs

@@ -4,10 +4,6 @@ use mathlib.Core.Path.{sym, _∙_}
 use borrow.Author.Needs.{needs}
 use Rattle.naupelys.proofs.ended.Statement.{statement}
 use Rattle.naupelys.proofs.ended.Tie as tie
-use Rattle.naupelys.proofs.ended.Reads as reads
-use Rattle.naupelys.proofs.ended.Lts as lts
-use Rattle.packing.proofs.state.write.Reads as write-reads
-use Rattle.naupelys.proofs.told.Reads as told-reads
 
 told-requires : tie.Need-told-requires
 told-requires c κs = search needs

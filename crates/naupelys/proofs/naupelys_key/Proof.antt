@@ -3,12 +3,6 @@ use borrow.Author.Tests.{not-true, not-false}
 use borrow.Author.Needs.{needs}
 use Rattle.naupelys.proofs.naupelys_key.Statement.{statement}
 use Rattle.naupelys.proofs.naupelys_key.Tie as tie
-use Rattle.naupelys.proofs.naupelys_key.Reads as reads
-use Rattle.naupelys.proofs.naupelys_key.Lts as lts
-use Rattle.events.proofs.keys.key.Reads as key-reads
-use Rattle.unpacking.proofs.state.read.Reads as read-reads
-use Rattle.naupelys.proofs.ended.Reads as ended-reads
-use Rattle.naupelys.proofs.no_state.Reads as no-state-reads
 
 read-requires : tie.Need-read-requires
 read-requires c κs = search needs

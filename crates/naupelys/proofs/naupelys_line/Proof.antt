@@ -1,9 +1,6 @@
 use borrow.Author.Needs.{needs}
 use Rattle.naupelys.proofs.naupelys_line.Statement.{statement}
 use Rattle.naupelys.proofs.naupelys_line.Tie as tie
-use Rattle.naupelys.proofs.naupelys_line.Reads as reads
-use Rattle.naupelys.proofs.naupelys_line.Lts as lts
-use Rattle.linecall.proofs.line.Reads as line-reads
 
 line-requires : tie.Need-line-requires
 line-requires c κs = search needs

@@ -2,12 +2,6 @@ use Rattle.naupelys.proofs.Together.{power-on-refused, power-on-called}
 use borrow.Author.Needs.{needs}
 use Rattle.naupelys.proofs.naupelys_power_on.Statement.{statement}
 use Rattle.naupelys.proofs.naupelys_power_on.Tie as tie
-use Rattle.naupelys.proofs.naupelys_power_on.Reads as reads
-use Rattle.naupelys.proofs.naupelys_power_on.Lts as lts
-use Rattle.packing.proofs.state.write.Reads as write-reads
-use Rattle.naupelys.proofs.no_state.Reads as no-state-reads
-use Rattle.naupelys.proofs.told.Reads as told-reads
-use Rattle.picture.proofs.calls.power_on.Reads as power-on-reads
 
 no-state-requires : tie.Need-no-state-requires
 no-state-requires c κs = search needs

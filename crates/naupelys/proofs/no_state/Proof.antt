@@ -2,9 +2,6 @@ use Rattle.answers.specs.Answer.{numbersOf}
 use borrow.Author.Needs.{needs}
 use Rattle.naupelys.proofs.no_state.Statement.{statement}
 use Rattle.naupelys.proofs.no_state.Tie as tie
-use Rattle.naupelys.proofs.no_state.Reads as reads
-use Rattle.naupelys.proofs.no_state.Lts as lts
-use Rattle.layout.proofs.says.refused.Reads as refused-reads
 
 refused-requires : tie.Need-refused-requires
 refused-requires c κs = search needs

@@ -4,10 +4,6 @@ use mathlib.Core.Path.{_∙_, ap}
 use borrow.Author.Needs.{needs}
 use Rattle.naupelys.proofs.told.Statement.{statement}
 use Rattle.naupelys.proofs.told.Tie as tie
-use Rattle.naupelys.proofs.told.Reads as reads
-use Rattle.naupelys.proofs.told.Lts as lts
-use Rattle.answers.proofs.told.Reads as told-reads
-use Rattle.layout.proofs.says.write.Reads as write-reads
 
 told-requires : tie.Need-told-requires
 told-requires c κs = search needs

@@ -12,10 +12,6 @@ use native.Mathlib.Omega.{arith}
 use borrow.Author.Needs.{needs}
 use Rattle.replies.proofs.answer_to.Statement.{statement}
 use Rattle.replies.proofs.answer_to.Tie as tie
-use Rattle.replies.proofs.answer_to.Reads as reads
-use Rattle.replies.proofs.answer_to.Lts as lts
-use Rattle.lists.proofs.at_most.Reads as at-most-reads
-use Rattle.verdict.proofs.verdict.verdict_on.Reads as verdict-on-reads
 
 given : (s : tie.Start) → length (s .args .p .content) ≡ 22
 given s = length-unmapped ℕ (s .args .p .content) 22 (s .good .0 .1 .1 .1 .1 .0 .1 .0 .1)

@@ -14,9 +14,6 @@ use Rattle.replies.specs.Reply.{writtenLength, written, refusedLength, r
 use borrow.Author.Needs.{needs}
 use Rattle.replies.proofs.refuse.Statement.{statement}
 use Rattle.replies.proofs.refuse.Tie as tie
-use Rattle.replies.proofs.refuse.Reads as reads
-use Rattle.replies.proofs.refuse.Lts as lts
-use Rattle.packets.proofs.packet.compose.Reads as compose-reads
 
 -- the variants of `Answer` that the last arm of the match takes
 abbrev rest : List ℕ

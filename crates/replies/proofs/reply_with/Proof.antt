@@ -10,10 +10,6 @@ use Rattle.replies.specs.Reply.{writtenLength, written}
 use borrow.Author.Needs.{needs}
 use Rattle.replies.proofs.reply_with.Statement.{statement}
 use Rattle.replies.proofs.reply_with.Tie as tie
-use Rattle.replies.proofs.reply_with.Reads as reads
-use Rattle.replies.proofs.reply_with.Lts as lts
-use Rattle.lists.proofs.at_most.Reads as at-most-reads
-use Rattle.packets.proofs.packet.compose.Reads as compose-reads
 
 given : (s : tie.Start) → length (s .args .packet .content) ≡ 22
 given s = length-unmapped ℕ (s .args .packet .content) 22 (s .good .0 .1 .1 .1 .1 .0 .1 .0 .1)

@@ -8,11 +8,6 @@ use native.Mathlib.Omega.{arith}
 use borrow.Author.Needs.{needs}
 use Rattle.carry.proofs.carry.carry_out.Statement.{statement}
 use Rattle.carry.proofs.carry.carry_out.Tie as tie
-use Rattle.carry.proofs.carry.carry_out.Reads as reads
-use Rattle.carry.proofs.carry.carry_out.Lts as lts
-use Rattle.carry.proofs.effect.effect_of.Reads as effect-of-reads
-use Rattle.carry.proofs.reply.reply_to.Reads as reply-to-reads
-use Rattle.lists.proofs.at_most.Reads as at-most-reads
 
 given : (s : tie.Start) → length (s .args .p .content) ≡ 22
 given s = length-unmapped ℕ (s .args .p .content) 22 (s .good .1 .0 .1 .1 .1 .1 .0 .1 .0 .1)

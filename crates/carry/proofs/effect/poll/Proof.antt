@@ -1,8 +1,6 @@
 use borrow.Author.Needs.{needs}
 use Rattle.carry.proofs.effect.poll.Statement.{statement}
 use Rattle.carry.proofs.effect.poll.Tie as tie
-use Rattle.carry.proofs.effect.poll.Reads as reads
-use Rattle.carry.proofs.effect.poll.Lts as lts
 
 returns : tie.Need-returns
 returns c = search needs

@@ -1,11 +1,6 @@
 use borrow.Author.Needs.{needs}
 use Rattle.carry.proofs.effect.read_pin.Statement.{statement}
 use Rattle.carry.proofs.effect.read_pin.Tie as tie
-use Rattle.carry.proofs.effect.read_pin.Reads as reads
-use Rattle.carry.proofs.effect.read_pin.Lts as lts
-use Rattle.carry.proofs.effect.unmarked.Reads as unmarked-reads
-use Rattle.lists.proofs.at.Reads as at-reads
-use Rattle.lists.proofs.wide.Reads as wide-reads
 
 at-requires : tie.Need-at-requires
 at-requires c κs = search needs

@@ -1,9 +1,6 @@
 use borrow.Author.Needs.{needs}
 use Rattle.carry.proofs.effect.set_cursor.Statement.{statement}
 use Rattle.carry.proofs.effect.set_cursor.Tie as tie
-use Rattle.carry.proofs.effect.set_cursor.Reads as reads
-use Rattle.carry.proofs.effect.set_cursor.Lts as lts
-use Rattle.lists.proofs.at.Reads as at-reads
 
 at-requires : tie.Need-at-requires
 at-requires c κs = search needs

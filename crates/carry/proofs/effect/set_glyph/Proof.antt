@@ -1,13 +1,6 @@
 use borrow.Author.Needs.{needs}
 use Rattle.carry.proofs.effect.set_glyph.Statement.{statement}
 use Rattle.carry.proofs.effect.set_glyph.Tie as tie
-use Rattle.carry.proofs.effect.set_glyph.Reads as reads
-use Rattle.carry.proofs.effect.set_glyph.Lts as lts
-use Rattle.lists.proofs.at.Reads as at-reads
-use Rattle.glyphs.proofs.eight.Reads as eight-reads
-use Rattle.glyphs.proofs.flattened.Reads as flattened-reads
-use Rattle.glyphs.proofs.nested.Reads as nested-reads
-use Rattle.glyphs.proofs.set.Reads as set-reads
 
 eight-requires : tie.Need-eight-requires
 eight-requires c κs = search needs

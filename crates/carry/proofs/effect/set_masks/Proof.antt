@@ -1,9 +1,6 @@
 use borrow.Author.Needs.{needs}
 use Rattle.carry.proofs.effect.set_masks.Statement.{statement}
 use Rattle.carry.proofs.effect.set_masks.Tie as tie
-use Rattle.carry.proofs.effect.set_masks.Reads as reads
-use Rattle.carry.proofs.effect.set_masks.Lts as lts
-use Rattle.lists.proofs.at.Reads as at-reads
 
 at-requires : tie.Need-at-requires
 at-requires c κs = search needs

@@ -3,12 +3,6 @@ use Rattle.lists.proofs.Laws.{when-true, when-false}
 use borrow.Author.Needs.{needs}
 use Rattle.carry.proofs.effect.set_pin.Statement.{statement}
 use Rattle.carry.proofs.effect.set_pin.Tie as tie
-use Rattle.carry.proofs.effect.set_pin.Reads as reads
-use Rattle.carry.proofs.effect.set_pin.Lts as lts
-use Rattle.carry.proofs.effect.with_config.Reads as with-config-reads
-use Rattle.carry.proofs.effect.with_level.Reads as with-level-reads
-use Rattle.lists.proofs.at.Reads as at-reads
-use Rattle.lists.proofs.wide.Reads as wide-reads
 
 at-requires : tie.Need-at-requires
 at-requires c κs = search needs

@@ -5,8 +5,6 @@ use native.Mathlib.Omega.{arith}
 use borrow.Author.Needs.{needs}
 use Rattle.carry.proofs.effect.unmarked.Statement.{statement}
 use Rattle.carry.proofs.effect.unmarked.Tie as tie
-use Rattle.carry.proofs.effect.unmarked.Reads as reads
-use Rattle.carry.proofs.effect.unmarked.Lts as lts
 
 array-write-r : tie.Need-array-write-r
 array-write-r c = search needs

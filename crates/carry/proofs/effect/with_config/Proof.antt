@@ -4,8 +4,6 @@ use native.Mathlib.Omega.{arith}
 use borrow.Author.Needs.{needs}
 use Rattle.carry.proofs.effect.with_config.Statement.{statement}
 use Rattle.carry.proofs.effect.with_config.Tie as tie
-use Rattle.carry.proofs.effect.with_config.Reads as reads
-use Rattle.carry.proofs.effect.with_config.Lts as lts
 
 array-write-r : tie.Need-array-write-r
 array-write-r c = search needs

@@ -4,8 +4,6 @@ use native.Mathlib.Omega.{arith}
 use borrow.Author.Needs.{needs}
 use Rattle.carry.proofs.effect.with_level.Statement.{statement}
 use Rattle.carry.proofs.effect.with_level.Tie as tie
-use Rattle.carry.proofs.effect.with_level.Reads as reads
-use Rattle.carry.proofs.effect.with_level.Lts as lts
 
 array-write-r : tie.Need-array-write-r
 array-write-r c = search needs

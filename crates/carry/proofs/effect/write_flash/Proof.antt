@@ -1,9 +1,6 @@
 use borrow.Author.Needs.{needs}
 use Rattle.carry.proofs.effect.write_flash.Statement.{statement}
 use Rattle.carry.proofs.effect.write_flash.Tie as tie
-use Rattle.carry.proofs.effect.write_flash.Reads as reads
-use Rattle.carry.proofs.effect.write_flash.Lts as lts
-use Rattle.lists.proofs.paste.Reads as paste-reads
 
 slice-aggregate-paste : tie.Need-slice-aggregate-paste
 slice-aggregate-paste c = search needs

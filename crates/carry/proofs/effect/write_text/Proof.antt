@@ -2,12 +2,6 @@ use Rattle.lists.proofs.Laws.{all-behind, drop-most}
 use borrow.Author.Needs.{needs}
 use Rattle.carry.proofs.effect.write_text.Statement.{statement}
 use Rattle.carry.proofs.effect.write_text.Tie as tie
-use Rattle.carry.proofs.effect.write_text.Reads as reads
-use Rattle.carry.proofs.effect.write_text.Lts as lts
-use Rattle.lists.proofs.at.Reads as at-reads
-use Rattle.lists.proofs.at_most.Reads as at-most-reads
-use Rattle.lists.proofs.paste.Reads as paste-reads
-use Rattle.lists.proofs.wide.Reads as wide-reads
 
 at-most-requires : tie.Need-at-most-requires
 at-most-requires c κs = search needs

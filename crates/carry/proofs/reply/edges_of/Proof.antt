@@ -2,10 +2,6 @@ use Rattle.carry.specs.Carry.{edges}
 use borrow.Author.Needs.{needs}
 use Rattle.carry.proofs.reply.edges_of.Statement.{statement}
 use Rattle.carry.proofs.reply.edges_of.Tie as tie
-use Rattle.carry.proofs.reply.edges_of.Reads as reads
-use Rattle.carry.proofs.reply.edges_of.Lts as lts
-use Rattle.carry.proofs.reply.as_bit.Reads as as-bit-reads
-use Rattle.carry.proofs.reply.is_marked.Reads as is-marked-reads
 
 is-marked-requires : tie.Need-is-marked-requires
 is-marked-requires c κs = search needs

@@ -5,8 +5,6 @@ use native.Mathlib.Omega.{arith}
 use borrow.Author.Needs.{needs}
 use Rattle.carry.proofs.reply.is_marked.Statement.{statement}
 use Rattle.carry.proofs.reply.is_marked.Tie as tie
-use Rattle.carry.proofs.reply.is_marked.Reads as reads
-use Rattle.carry.proofs.reply.is_marked.Lts as lts
 
 array-read-result : tie.Need-array-read-result
 array-read-result c = search needs

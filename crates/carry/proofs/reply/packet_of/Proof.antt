@@ -7,9 +7,6 @@ use native.Mathlib.Omega.{arith}
 use borrow.Author.Needs.{needs}
 use Rattle.carry.proofs.reply.packet_of.Statement.{statement}
 use Rattle.carry.proofs.reply.packet_of.Tie as tie
-use Rattle.carry.proofs.reply.packet_of.Reads as reads
-use Rattle.carry.proofs.reply.packet_of.Lts as lts
-use Rattle.lists.proofs.paste.Reads as paste-reads
 
 slice-aggregate-paste : tie.Need-slice-aggregate-paste
 slice-aggregate-paste c = search needs

@@ -1,13 +1,6 @@
 use borrow.Author.Needs.{needs}
 use Rattle.carry.proofs.reply.pin_packet.Statement.{statement}
 use Rattle.carry.proofs.reply.pin_packet.Tie as tie
-use Rattle.carry.proofs.reply.pin_packet.Reads as reads
-use Rattle.carry.proofs.reply.pin_packet.Lts as lts
-use Rattle.carry.proofs.reply.config_of.Reads as config-of-reads
-use Rattle.carry.proofs.reply.edges_of.Reads as edges-of-reads
-use Rattle.carry.proofs.reply.level_of.Reads as level-of-reads
-use Rattle.carry.proofs.reply.packet_of.Reads as packet-of-reads
-use Rattle.lists.proofs.wide.Reads as wide-reads
 
 wide-requires : tie.Need-wide-requires
 wide-requires c κs = search needs

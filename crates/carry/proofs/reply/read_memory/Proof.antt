@@ -5,10 +5,6 @@ use Rattle.carry.specs.Carry.{memory}
 use borrow.Author.Needs.{needs}
 use Rattle.carry.proofs.reply.read_memory.Statement.{statement}
 use Rattle.carry.proofs.reply.read_memory.Tie as tie
-use Rattle.carry.proofs.reply.read_memory.Reads as reads
-use Rattle.carry.proofs.reply.read_memory.Lts as lts
-use Rattle.carry.proofs.reply.less.Reads as less-reads
-use Rattle.glyphs.proofs.eight.Reads as eight-reads
 
 slice-aggregate-eight : tie.Need-slice-aggregate-eight
 slice-aggregate-eight c = search needs

@@ -11,15 +11,6 @@ use Rattle.carry.specs.Carry.{memory, replyData}
 use borrow.Author.Needs.{needs}
 use Rattle.carry.proofs.reply.reply_to.Statement.{statement}
 use Rattle.carry.proofs.reply.reply_to.Tie as tie
-use Rattle.carry.proofs.reply.reply_to.Reads as reads
-use Rattle.carry.proofs.reply.reply_to.Lts as lts
-use Rattle.carry.proofs.reply.flash_packet.Reads as flash-packet-reads
-use Rattle.carry.proofs.reply.memory_packet.Reads as memory-packet-reads
-use Rattle.carry.proofs.reply.packet_of.Reads as packet-of-reads
-use Rattle.carry.proofs.reply.pin_packet.Reads as pin-packet-reads
-use Rattle.carry.proofs.reply.read_memory.Reads as read-memory-reads
-use Rattle.carry.proofs.reply.version_text.Reads as version-text-reads
-use Rattle.lists.proofs.at.Reads as at-reads
 
 add-kind : tie.Need-add-kind
 add-kind c = search needs

@@ -5,9 +5,6 @@ use Rattle.replies.specs.Reply.{writtenLength, written}
 use borrow.Author.Needs.{needs}
 use Rattle.command.proofs.hear.write.Statement.{statement}
 use Rattle.command.proofs.hear.write.Tie as tie
-use Rattle.command.proofs.hear.write.Reads as reads
-use Rattle.command.proofs.hear.write.Lts as lts
-use Rattle.replies.proofs.reply_with.Reads as reply-with-reads
 
 returns : tie.Need-returns
 unfolding writtenLength written

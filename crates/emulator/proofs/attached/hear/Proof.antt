@@ -4,10 +4,6 @@ use native.Mathlib.Omega.{arith}
 use borrow.Author.Needs.{needs}
 use Rattle.emulator.proofs.attached.hear.Statement.{statement}
 use Rattle.emulator.proofs.attached.hear.Tie as tie
-use Rattle.emulator.proofs.attached.hear.Reads as reads
-use Rattle.emulator.proofs.attached.hear.Lts as lts
-use Rattle.emulator.proofs.attached.call.Reads as call-reads
-use Rattle.lists.proofs.at_most.Reads as at-most-reads
 
 abbrev Inv-loop : tie.InvT-loop
 Inv-loop piece font a₀ at₀ counter₀ end a at counter = (at ≤ length piece) × (counter ≤ end)

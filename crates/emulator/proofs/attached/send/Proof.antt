@@ -3,11 +3,6 @@ use native.Mathlib.Omega.{arith}
 use borrow.Author.Needs.{needs}
 use Rattle.emulator.proofs.attached.send.Statement.{statement}
 use Rattle.emulator.proofs.attached.send.Tie as tie
-use Rattle.emulator.proofs.attached.send.Reads as reads
-use Rattle.emulator.proofs.attached.send.Lts as lts
-use Rattle.io.proofs.write_all.Reads as write-all-reads
-use Rattle.lists.proofs.at_most.Reads as at-most-reads
-use Rattle.os.proofs.fail.Reads as fail-reads
 
 at-most-requires : tie.Need-at-most-requires
 at-most-requires c κs = search needs

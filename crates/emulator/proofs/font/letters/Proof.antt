@@ -2,8 +2,6 @@ use Prim.Native.Nat.{_≤_, _-_}
 use borrow.Author.Needs.{needs}
 use Rattle.emulator.proofs.font.letters.Statement.{statement}
 use Rattle.emulator.proofs.font.letters.Tie as tie
-use Rattle.emulator.proofs.font.letters.Reads as reads
-use Rattle.emulator.proofs.font.letters.Lts as lts
 
 abbrev Inv-loop : tie.InvT-loop
 Inv-loop font₀ i₀ font i = i ≤ 760

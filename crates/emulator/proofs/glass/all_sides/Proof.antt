@@ -2,9 +2,6 @@ use Prim.Native.Nat.{_≤_, _-_}
 use borrow.Author.Needs.{needs}
 use Rattle.emulator.proofs.glass.all_sides.Statement.{statement}
 use Rattle.emulator.proofs.glass.all_sides.Tie as tie
-use Rattle.emulator.proofs.glass.all_sides.Reads as reads
-use Rattle.emulator.proofs.glass.all_sides.Lts as lts
-use Rattle.emulator.proofs.glass.sides.Reads as sides-reads
 
 abbrev Inv-loop : tie.InvT-loop
 Inv-loop row₀ row = row ≤ 10

@@ -2,8 +2,6 @@ use Prim.Native.Nat.{_≤_, _-_}
 use borrow.Author.Needs.{needs}
 use Rattle.emulator.proofs.glass.every_cell.Statement.{statement}
 use Rattle.emulator.proofs.glass.every_cell.Tie as tie
-use Rattle.emulator.proofs.glass.every_cell.Reads as reads
-use Rattle.emulator.proofs.glass.every_cell.Lts as lts
 
 abbrev Inv-loop : tie.InvT-loop
 Inv-loop list₀ i₀ list i = i ≤ 80

@@ -6,10 +6,6 @@ use native.Mathlib.Omega.{arith}
 use borrow.Author.Needs.{needs}
 use Rattle.emulator.proofs.glass.put.Statement.{statement}
 use Rattle.emulator.proofs.glass.put.Tie as tie
-use Rattle.emulator.proofs.glass.put.Reads as reads
-use Rattle.emulator.proofs.glass.put.Lts as lts
-use Rattle.io.proofs.write_all.Reads as write-all-reads
-use Rattle.lists.proofs.at_most.Reads as at-most-reads
 
 given : (s : tie.Start) → length (s .args .s .bytes) ≡ 2728
 given s = length-unmapped ℕ (s .args .s .bytes) 2728 (s .good .0 .1 .1 .0 .1 .0 .1)

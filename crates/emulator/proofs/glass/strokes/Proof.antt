@@ -2,9 +2,6 @@ use Prim.Native.Nat.{_≤_, _-_}
 use borrow.Author.Needs.{needs}
 use Rattle.emulator.proofs.glass.strokes.Statement.{statement}
 use Rattle.emulator.proofs.glass.strokes.Tie as tie
-use Rattle.emulator.proofs.glass.strokes.Reads as reads
-use Rattle.emulator.proofs.glass.strokes.Lts as lts
-use Rattle.emulator.proofs.glass.stroke.Reads as stroke-reads
 
 abbrev Inv-loop : tie.InvT-loop
 Inv-loop counter₀ counter = counter ≤ 60

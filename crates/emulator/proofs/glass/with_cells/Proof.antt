@@ -2,12 +2,6 @@ use Prim.Native.Nat.{_≤_, _-_}
 use borrow.Author.Needs.{needs}
 use Rattle.emulator.proofs.glass.with_cells.Statement.{statement}
 use Rattle.emulator.proofs.glass.with_cells.Tie as tie
-use Rattle.emulator.proofs.glass.with_cells.Reads as reads
-use Rattle.emulator.proofs.glass.with_cells.Lts as lts
-use Rattle.emulator.proofs.glass.blank.Reads as blank-reads
-use Rattle.emulator.proofs.glass.with_cell.Reads as with-cell-reads
-use Rattle.lists.proofs.at.Reads as at-reads
-use Rattle.lists.proofs.at_most.Reads as at-most-reads
 
 abbrev Inv-loop : tie.InvT-loop
 Inv-loop picture list listed s₀ n i₀ s i = i ≤ n

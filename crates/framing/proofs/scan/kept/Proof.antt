@@ -7,9 +7,6 @@ use native.Mathlib.Omega.{arith}
 use borrow.Author.Needs.{needs}
 use Rattle.framing.proofs.scan.kept.Statement.{statement}
 use Rattle.framing.proofs.scan.kept.Tie as tie
-use Rattle.framing.proofs.scan.kept.Reads as reads
-use Rattle.framing.proofs.scan.kept.Lts as lts
-use Rattle.lists.proofs.paste.Reads as paste-reads
 
 slice-aggregate-paste : tie.Need-slice-aggregate-paste
 slice-aggregate-paste c = search needs

@@ -9,10 +9,6 @@ use native.Mathlib.Omega.{arith}
 use borrow.Author.Needs.{needs}
 use Rattle.framing.proofs.scan.scan.Statement.{statement}
 use Rattle.framing.proofs.scan.scan.Tie as tie
-use Rattle.framing.proofs.scan.scan.Reads as reads
-use Rattle.framing.proofs.scan.scan.Lts as lts
-use Rattle.framing.proofs.scan.scan_part.Reads as scan-part-reads
-use Rattle.lists.proofs.at_most.Reads as at-most-reads
 
 at-most-requires : tie.Need-at-most-requires
 at-most-requires c κs = search needs

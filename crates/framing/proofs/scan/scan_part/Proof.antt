@@ -11,12 +11,6 @@ use native.Mathlib.Omega.{arith}
 use borrow.Author.Needs.{needs}
 use Rattle.framing.proofs.scan.scan_part.Statement.{statement}
 use Rattle.framing.proofs.scan.scan_part.Tie as tie
-use Rattle.framing.proofs.scan.scan_part.Reads as reads
-use Rattle.framing.proofs.scan.scan_part.Lts as lts
-use Rattle.framing.proofs.scan.scan_rest.Reads as scan-rest-reads
-use Rattle.framing.proofs.scan.scan_window.Reads as scan-window-reads
-use Rattle.lists.proofs.at_most.Reads as at-most-reads
-use Rattle.lists.proofs.paste.Reads as paste-reads
 
 given : (s : tie.Start) → length (s .args .hold .bytes) ≡ 25
 given s = length-unmapped ℕ (s .args .hold .bytes) 25 (s .good .0 .1 .1 .0 .1 .0 .1)

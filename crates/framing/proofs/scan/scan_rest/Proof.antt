@@ -6,11 +6,6 @@ use native.Mathlib.Omega.{arith}
 use borrow.Author.Needs.{needs}
 use Rattle.framing.proofs.scan.scan_rest.Statement.{statement}
 use Rattle.framing.proofs.scan.scan_rest.Tie as tie
-use Rattle.framing.proofs.scan.scan_rest.Reads as reads
-use Rattle.framing.proofs.scan.scan_rest.Lts as lts
-use Rattle.framing.proofs.scan.waiting.Reads as waiting-reads
-use Rattle.framing.proofs.scan.walk.Reads as walk-reads
-use Rattle.framing.proofs.scan.with_packet.Reads as with-packet-reads
 
 walk-requires : tie.Need-walk-requires
 walk-requires c κs = search needs

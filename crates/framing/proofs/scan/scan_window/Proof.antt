@@ -8,12 +8,6 @@ use native.Mathlib.Omega.{arith}
 use borrow.Author.Needs.{needs}
 use Rattle.framing.proofs.scan.scan_window.Statement.{statement}
 use Rattle.framing.proofs.scan.scan_window.Tie as tie
-use Rattle.framing.proofs.scan.scan_window.Reads as reads
-use Rattle.framing.proofs.scan.scan_window.Lts as lts
-use Rattle.framing.proofs.scan.scan_rest.Reads as scan-rest-reads
-use Rattle.framing.proofs.scan.waiting.Reads as waiting-reads
-use Rattle.framing.proofs.scan.walk.Reads as walk-reads
-use Rattle.framing.proofs.scan.with_packet.Reads as with-packet-reads
 
 -- the bytes of earlier calls are gone
 rests : (c : tie.Else2)

@@ -2,9 +2,6 @@ use Rattle.framing.proofs.Endings.{scanned-waiting}
 use borrow.Author.Needs.{needs}
 use Rattle.framing.proofs.scan.waiting.Statement.{statement}
 use Rattle.framing.proofs.scan.waiting.Tie as tie
-use Rattle.framing.proofs.scan.waiting.Reads as reads
-use Rattle.framing.proofs.scan.waiting.Lts as lts
-use Rattle.framing.proofs.scan.kept.Reads as kept-reads
 
 kept-requires : tie.Need-kept-requires
 kept-requires c κs = search needs

@@ -11,12 +11,6 @@ use native.Mathlib.Omega.{arith}
 use borrow.Author.Needs.{needs}
 use Rattle.framing.proofs.scan.walk.Statement.{statement}
 use Rattle.framing.proofs.scan.walk.Tie as tie
-use Rattle.framing.proofs.scan.walk.Reads as reads
-use Rattle.framing.proofs.scan.walk.Lts as lts
-use Rattle.packets.proofs.judge.judge.Reads as judge-reads
-use Rattle.framing.proofs.scan.wanted.Reads as wanted-reads
-use Rattle.lists.proofs.at_most.Reads as at-most-reads
-use Rattle.lists.proofs.wide.Reads as wide-reads
 
 abbrev Inv-loop : tie.InvT-loop
 Inv-loop bytes first next start₀ end₀ checked₀ start end checked = Stands bytes first next start end checked

@@ -4,9 +4,6 @@ use native.Mathlib.Omega.{arith}
 use borrow.Author.Needs.{needs}
 use Rattle.framing.proofs.scan.wanted.Statement.{statement}
 use Rattle.framing.proofs.scan.wanted.Tie as tie
-use Rattle.framing.proofs.scan.wanted.Reads as reads
-use Rattle.framing.proofs.scan.wanted.Lts as lts
-use Rattle.lists.proofs.wide.Reads as wide-reads
 
 returns : tie.Need-returns
 returns c = sym (needed-short _ (omega arith))

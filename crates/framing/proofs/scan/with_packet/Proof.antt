@@ -3,11 +3,6 @@ use native.Mathlib.Omega.{arith}
 use borrow.Author.Needs.{needs}
 use Rattle.framing.proofs.scan.with_packet.Statement.{statement}
 use Rattle.framing.proofs.scan.with_packet.Tie as tie
-use Rattle.framing.proofs.scan.with_packet.Reads as reads
-use Rattle.framing.proofs.scan.with_packet.Lts as lts
-use Rattle.framing.proofs.scan.kept.Reads as kept-reads
-use Rattle.lists.proofs.paste.Reads as paste-reads
-use Rattle.lists.proofs.wide.Reads as wide-reads
 
 shared-slice-read-wide : tie.Need-shared-slice-read-wide
 shared-slice-read-wide c = search needs

@@ -4,10 +4,6 @@ use Rattle.layout.specs.Says.{saidBytes}
 use borrow.Author.Needs.{needs}
 use Rattle.layout.proofs.says.refused.Statement.{statement}
 use Rattle.layout.proofs.says.refused.Tie as tie
-use Rattle.layout.proofs.says.refused.Reads as reads
-use Rattle.layout.proofs.says.refused.Lts as lts
-use Rattle.answers.proofs.told.Reads as told-reads
-use Rattle.layout.proofs.says.write.Reads as write-reads
 
 told-requires : tie.Need-told-requires
 told-requires c κs = search needs

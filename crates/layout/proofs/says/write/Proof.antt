@@ -3,8 +3,6 @@ use Rattle.layout.specs.Says.{saidBytes}
 use borrow.Author.Needs.{needs}
 use Rattle.layout.proofs.says.write.Statement.{statement}
 use Rattle.layout.proofs.says.write.Tie as tie
-use Rattle.layout.proofs.says.write.Reads as reads
-use Rattle.layout.proofs.says.write.Lts as lts
 
 cast-t9 : tie.Need-cast-t9
 cast-t9 c = search needs

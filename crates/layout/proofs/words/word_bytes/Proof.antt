@@ -1,8 +1,6 @@
 use borrow.Author.Needs.{needs}
 use Rattle.layout.proofs.words.word_bytes.Statement.{statement}
 use Rattle.layout.proofs.words.word_bytes.Tie as tie
-use Rattle.layout.proofs.words.word_bytes.Reads as reads
-use Rattle.layout.proofs.words.word_bytes.Lts as lts
 
 cast-t3 : tie.Need-cast-t3
 cast-t3 c = search needs

@@ -1,8 +1,6 @@
 use borrow.Author.Needs.{needs}
 use Rattle.layout.proofs.words.word_of.Statement.{statement}
 use Rattle.layout.proofs.words.word_of.Tie as tie
-use Rattle.layout.proofs.words.word_of.Reads as reads
-use Rattle.layout.proofs.words.word_of.Lts as lts
 
 mul-result : tie.Need-mul-result
 mul-result c = search needs

@@ -6,10 +6,6 @@ use native.Mathlib.Omega.{arith}
 use borrow.Author.Needs.{needs}
 use Rattle.line.proofs.text.put.Statement.{statement}
 use Rattle.line.proofs.text.put.Tie as tie
-use Rattle.line.proofs.text.put.Reads as reads
-use Rattle.line.proofs.text.put.Lts as lts
-use Rattle.io.proofs.write_all.Reads as write-all-reads
-use Rattle.lists.proofs.at_most.Reads as at-most-reads
 
 given : (s : tie.Start) → length (s .args .t .bytes) ≡ 200
 given s = length-unmapped ℕ (s .args .t .bytes) 200 (s .good .0 .1 .1 .0 .1 .0 .1)

@@ -4,10 +4,6 @@ use native.Mathlib.Omega.{arith}
 use borrow.Author.Needs.{needs}
 use Rattle.line.proofs.watch.hear.Statement.{statement}
 use Rattle.line.proofs.watch.hear.Tie as tie
-use Rattle.line.proofs.watch.hear.Reads as reads
-use Rattle.line.proofs.watch.hear.Lts as lts
-use Rattle.line.proofs.watch.call.Reads as call-reads
-use Rattle.lists.proofs.at_most.Reads as at-most-reads
 
 abbrev Inv-loop : tie.InvT-loop
 Inv-loop piece font w₀ at₀ counter₀ end w at counter = (at ≤ length piece) × (counter ≤ end)

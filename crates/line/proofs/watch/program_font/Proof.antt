@@ -2,8 +2,6 @@ use Prim.Native.Nat.{_≤_, _-_}
 use borrow.Author.Needs.{needs}
 use Rattle.line.proofs.watch.program_font.Statement.{statement}
 use Rattle.line.proofs.watch.program_font.Tie as tie
-use Rattle.line.proofs.watch.program_font.Reads as reads
-use Rattle.line.proofs.watch.program_font.Lts as lts
 
 abbrev Inv-loop : tie.InvT-loop
 Inv-loop font₀ i₀ font i = i ≤ 2048

@@ -1,8 +1,6 @@
 use borrow.Author.Needs.{needs}
 use Rattle.packets.proofs.hold.empty.Statement.{statement}
 use Rattle.packets.proofs.hold.empty.Tie as tie
-use Rattle.packets.proofs.hold.empty.Reads as reads
-use Rattle.packets.proofs.hold.empty.Lts as lts
 
 returns : tie.Need-returns
 returns c = search needs

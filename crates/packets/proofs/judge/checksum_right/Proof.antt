@@ -4,10 +4,6 @@ use native.Mathlib.Omega.{arith}
 use borrow.Author.Needs.{needs}
 use Rattle.packets.proofs.judge.checksum_right.Statement.{statement}
 use Rattle.packets.proofs.judge.checksum_right.Tie as tie
-use Rattle.packets.proofs.judge.checksum_right.Reads as reads
-use Rattle.packets.proofs.judge.checksum_right.Lts as lts
-use Rattle.fcs.proofs.checksum.Reads as checksum-reads
-use Rattle.lists.proofs.wide.Reads as wide-reads
 
 add-end : tie.Need-add-end
 add-end c = search needs

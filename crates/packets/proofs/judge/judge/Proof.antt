@@ -3,10 +3,6 @@ use Rattle.packets.proofs.Judgements.{shown, short, judged-long, judged
 use borrow.Author.Needs.{needs}
 use Rattle.packets.proofs.judge.judge.Statement.{statement}
 use Rattle.packets.proofs.judge.judge.Tie as tie
-use Rattle.packets.proofs.judge.judge.Reads as reads
-use Rattle.packets.proofs.judge.judge.Lts as lts
-use Rattle.packets.proofs.judge.checksum_right.Reads as checksum-right-reads
-use Rattle.lists.proofs.wide.Reads as wide-reads
 
 returns : tie.Need-returns
 returns c = sym (shown (c .before .before .args .held .now) (short (c .if1 .taken)))

@@ -5,10 +5,6 @@ use native.Mathlib.Omega.{arith}
 use borrow.Author.Needs.{needs}
 use Rattle.packets.proofs.packet.compose.Statement.{statement}
 use Rattle.packets.proofs.packet.compose.Tie as tie
-use Rattle.packets.proofs.packet.compose.Reads as reads
-use Rattle.packets.proofs.packet.compose.Lts as lts
-use Rattle.fcs.proofs.checksum.Reads as checksum-reads
-use Rattle.lists.proofs.paste.Reads as paste-reads
 
 -- the paste leaves the buffer's size
 still : (c : tie.After-paste) → length (c .paste .last .0) ≡ length (c .before .before .before .before .before .before .args .out .now)

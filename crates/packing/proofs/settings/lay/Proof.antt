@@ -9,9 +9,6 @@ use Rattle.layout.proofs.Laid.{further}
 use borrow.Author.Needs.{needs}
 use Rattle.packing.proofs.settings.lay.Statement.{statement}
 use Rattle.packing.proofs.settings.lay.Tie as tie
-use Rattle.packing.proofs.settings.lay.Reads as reads
-use Rattle.packing.proofs.settings.lay.Lts as lts
-use Rattle.lists.proofs.paste.Reads as paste-reads
 
 paste-requires : tie.Need-paste-requires
 paste-requires c κs = search needs

@@ -2,9 +2,6 @@ use Rattle.layout.specs.State.{fiveBits}
 use borrow.Author.Needs.{needs}
 use Rattle.packing.proofs.state.five_bits.Statement.{statement}
 use Rattle.packing.proofs.state.five_bits.Tie as tie
-use Rattle.packing.proofs.state.five_bits.Reads as reads
-use Rattle.packing.proofs.state.five_bits.Lts as lts
-use Rattle.packing.proofs.state.bit.Reads as bit-reads
 
 array-read-bit : tie.Need-array-read-bit
 array-read-bit c = search needs

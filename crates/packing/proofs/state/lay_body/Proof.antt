@@ -7,11 +7,6 @@ use Rattle.layout.proofs.Laid.{first, further, length-settings, length-pins}
 use borrow.Author.Needs.{needs}
 use Rattle.packing.proofs.state.lay_body.Statement.{statement}
 use Rattle.packing.proofs.state.lay_body.Tie as tie
-use Rattle.packing.proofs.state.lay_body.Reads as reads
-use Rattle.packing.proofs.state.lay_body.Lts as lts
-use Rattle.packing.proofs.settings.lay.Reads as lay-reads
-use Rattle.packing.proofs.state.lay_pins.Reads as lay-pins-reads
-use Rattle.lists.proofs.paste.Reads as paste-reads
 
 lay-requires : tie.Need-lay-requires
 lay-requires c κs = search needs

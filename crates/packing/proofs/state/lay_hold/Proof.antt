@@ -6,9 +6,6 @@ use Rattle.layout.proofs.Laid.{first, further}
 use borrow.Author.Needs.{needs}
 use Rattle.packing.proofs.state.lay_hold.Statement.{statement}
 use Rattle.packing.proofs.state.lay_hold.Tie as tie
-use Rattle.packing.proofs.state.lay_hold.Reads as reads
-use Rattle.packing.proofs.state.lay_hold.Lts as lts
-use Rattle.lists.proofs.paste.Reads as paste-reads
 
 cast-t7 : tie.Need-cast-t7
 cast-t7 c = search needs

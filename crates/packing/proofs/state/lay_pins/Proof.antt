@@ -6,10 +6,6 @@ use Rattle.layout.proofs.Laid.{first, further}
 use borrow.Author.Needs.{needs}
 use Rattle.packing.proofs.state.lay_pins.Statement.{statement}
 use Rattle.packing.proofs.state.lay_pins.Tie as tie
-use Rattle.packing.proofs.state.lay_pins.Reads as reads
-use Rattle.packing.proofs.state.lay_pins.Lts as lts
-use Rattle.packing.proofs.state.five_bits.Reads as five-bits-reads
-use Rattle.lists.proofs.paste.Reads as paste-reads
 
 five-bits-requires : tie.Need-five-bits-requires
 five-bits-requires c κs = search needs

@@ -14,12 +14,6 @@ use Rattle.lists.proofs.Laws.{when-true, when-false}
 use borrow.Author.Needs.{needs}
 use Rattle.packing.proofs.state.write.Statement.{statement}
 use Rattle.packing.proofs.state.write.Tie as tie
-use Rattle.packing.proofs.state.write.Reads as reads
-use Rattle.packing.proofs.state.write.Lts as lts
-use Rattle.packing.proofs.state.lay_body.Reads as lay-body-reads
-use Rattle.packing.proofs.state.lay_hold.Reads as lay-hold-reads
-use Rattle.layout.proofs.words.word_bytes.Reads as word-bytes-reads
-use Rattle.lists.proofs.paste.Reads as paste-reads
 
 returns : tie.Need-returns
 unfolding stateWith

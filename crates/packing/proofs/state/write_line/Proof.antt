@@ -12,11 +12,6 @@ use Rattle.layout.proofs.Laid.{both-ends}
 use borrow.Author.Needs.{needs}
 use Rattle.packing.proofs.state.write_line.Statement.{statement}
 use Rattle.packing.proofs.state.write_line.Tie as tie
-use Rattle.packing.proofs.state.write_line.Reads as reads
-use Rattle.packing.proofs.state.write_line.Lts as lts
-use Rattle.packing.proofs.state.lay_hold.Reads as lay-hold-reads
-use Rattle.layout.proofs.words.word_bytes.Reads as word-bytes-reads
-use Rattle.lists.proofs.paste.Reads as paste-reads
 
 returns : tie.Need-returns
 unfolding lineWith

@@ -6,10 +6,6 @@ use native.Mathlib.Omega.{arith}
 use borrow.Author.Needs.{needs}
 use Rattle.paint.proofs.draw.draw.Statement.{statement}
 use Rattle.paint.proofs.draw.draw.Tie as tie
-use Rattle.paint.proofs.draw.draw.Reads as reads
-use Rattle.paint.proofs.draw.draw.Lts as lts
-use Rattle.glyphs.proofs.eight.Reads as eight-reads
-use Rattle.paint.proofs.draw.low_six.Reads as low-six-reads
 
 mul-result : tie.Need-mul-result
 mul-result c = search needs

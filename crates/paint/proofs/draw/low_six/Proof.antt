@@ -5,8 +5,6 @@ use native.Mathlib.Omega.{arith}
 use borrow.Author.Needs.{needs}
 use Rattle.paint.proofs.draw.low_six.Statement.{statement}
 use Rattle.paint.proofs.draw.low_six.Tie as tie
-use Rattle.paint.proofs.draw.low_six.Reads as reads
-use Rattle.paint.proofs.draw.low_six.Lts as lts
 
 abbrev Inv-loop : tie.InvT-loop
 Inv-loop rows low₀ row₀ low row = (row ≤ 8) × (low ≡ lowFirst row rows)

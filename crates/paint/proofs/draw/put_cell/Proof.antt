@@ -7,8 +7,6 @@ use native.Mathlib.Omega.{arith}
 use borrow.Author.Needs.{needs}
 use Rattle.paint.proofs.draw.put_cell.Statement.{statement}
 use Rattle.paint.proofs.draw.put_cell.Tie as tie
-use Rattle.paint.proofs.draw.put_cell.Reads as reads
-use Rattle.paint.proofs.draw.put_cell.Lts as lts
 
 abbrev Inv-loop : tie.InvT-loop
 Inv-loop picture₀ cell bytes k₀ picture k = (k ≤ 8) × (picture ≡ put cell bytes picture₀ k) × (length picture ≡ length picture₀)

@@ -6,8 +6,6 @@ use native.Mathlib.Omega.{arith}
 use borrow.Author.Needs.{needs}
 use Rattle.paint.proofs.repaint.alike_first.Statement.{statement}
 use Rattle.paint.proofs.repaint.alike_first.Tie as tie
-use Rattle.paint.proofs.repaint.alike_first.Reads as reads
-use Rattle.paint.proofs.repaint.alike_first.Lts as lts
 
 abbrev Inv-loop : tie.InvT-loop
 Inv-loop a b n ok₀ i₀ ok i = (i ≤ n) × (ok ≡ alike i a b)

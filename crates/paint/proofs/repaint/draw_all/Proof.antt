@@ -6,9 +6,6 @@ use Rattle.paint.proofs.Sizes.{draws-sized, draws-left}
 use borrow.Author.Needs.{needs}
 use Rattle.paint.proofs.repaint.draw_all.Statement.{statement}
 use Rattle.paint.proofs.repaint.draw_all.Tie as tie
-use Rattle.paint.proofs.repaint.draw_all.Reads as reads
-use Rattle.paint.proofs.repaint.draw_all.Lts as lts
-use Rattle.paint.proofs.repaint.draw_cells.Reads as draw-cells-reads
 
 slice-aggregate-draw-cells : tie.Need-slice-aggregate-draw-cells
 slice-aggregate-draw-cells c = search needs

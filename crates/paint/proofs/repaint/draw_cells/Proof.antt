@@ -9,10 +9,6 @@ use native.Mathlib.Omega.{arith}
 use borrow.Author.Needs.{needs}
 use Rattle.paint.proofs.repaint.draw_cells.Statement.{statement}
 use Rattle.paint.proofs.repaint.draw_cells.Tie as tie
-use Rattle.paint.proofs.repaint.draw_cells.Reads as reads
-use Rattle.paint.proofs.repaint.draw_cells.Lts as lts
-use Rattle.paint.proofs.draw.draw.Reads as draw-reads
-use Rattle.paint.proofs.draw.put_cell.Reads as put-cell-reads
 
 abbrev Inv-loop : tie.InvT-loop
 Inv-loop picture₀ text glyphs font n₀ picture n = (n ≤ 80) × (picture ≡ paint (λ c. false) (cellDrawn (shown text glyphs) font) picture₀ n) × (length picture ≡ length picture₀)

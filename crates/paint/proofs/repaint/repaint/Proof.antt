@@ -8,11 +8,6 @@ use Rattle.paint.proofs.Sizes.{glyphs-meant}
 use borrow.Author.Needs.{needs}
 use Rattle.paint.proofs.repaint.repaint.Statement.{statement}
 use Rattle.paint.proofs.repaint.repaint.Tie as tie
-use Rattle.paint.proofs.repaint.repaint.Reads as reads
-use Rattle.paint.proofs.repaint.repaint.Lts as lts
-use Rattle.glyphs.proofs.nested.Reads as nested-reads
-use Rattle.paint.proofs.repaint.alike_first.Reads as alike-first-reads
-use Rattle.paint.proofs.repaint.repaint_cells.Reads as repaint-cells-reads
 
 slice-aggregate-alike-first : tie.Need-slice-aggregate-alike-first
 slice-aggregate-alike-first c = search needs

@@ -7,12 +7,6 @@ use Rattle.paint.proofs.Codes.{stays-alike}
 use Rattle.paint.proofs.Turns.{cell-left, cell-written}
 use Rattle.paint.proofs.repaint.repaint_cell.Statement.{statement}
 use Rattle.paint.proofs.repaint.repaint_cell.Tie as tie
-use Rattle.paint.proofs.repaint.repaint_cell.Reads as reads
-use Rattle.paint.proofs.repaint.repaint_cell.Lts as lts
-use Rattle.paint.proofs.draw.draw.Reads as draw-reads
-use Rattle.paint.proofs.draw.put_cell.Reads as put-cell-reads
-use Rattle.paint.proofs.repaint.alike_first.Reads as alike-first-reads
-use Rattle.paint.proofs.repaint.stays.Reads as stays-reads
 
 shared-slice-read-a : tie.Need-shared-slice-read-a
 shared-slice-read-a c = search needs

@@ -9,10 +9,6 @@ use Rattle.paint.proofs.Turns.{Reached, reached-first, reached-left, re
 use borrow.Author.Needs.{needs}
 use Rattle.paint.proofs.repaint.repaint_cells.Statement.{statement}
 use Rattle.paint.proofs.repaint.repaint_cells.Tie as tie
-use Rattle.paint.proofs.repaint.repaint_cells.Reads as reads
-use Rattle.paint.proofs.repaint.repaint_cells.Lts as lts
-use Rattle.paint.proofs.repaint.alike_first.Reads as alike-first-reads
-use Rattle.paint.proofs.repaint.repaint_cell.Reads as repaint-cell-reads
 
 abbrev Inv-loop : tie.InvT-loop
 Inv-loop picture₀ list₀ old new before after same font listed₀ cell₀ picture list listed cell = Reached (shown old before) (shown new after) font picture₀ list₀ cell picture list listed

@@ -8,9 +8,6 @@ use Rattle.panel.specs.Ranges.{configsInRange}
 use borrow.Author.Needs.{needs}
 use Rattle.panel.proofs.ranges.configs_in_range.Statement.{statement}
 use Rattle.panel.proofs.ranges.configs_in_range.Tie as tie
-use Rattle.panel.proofs.ranges.configs_in_range.Reads as reads
-use Rattle.panel.proofs.ranges.configs_in_range.Lts as lts
-use Rattle.table.proofs.config_allowed.Reads as config-allowed-reads
 
 abbrev Inv-loop : tie.InvT-loop
 Inv-loop configs ok₀ i₀ ok i = (i ≤ length configs) × (configsInRange configs ≡ ok && configsInRange (drop i configs))

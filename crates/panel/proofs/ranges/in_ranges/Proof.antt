@@ -4,10 +4,6 @@ use Rattle.lists.specs.Tests.{_≤?_}
 use borrow.Author.Needs.{needs}
 use Rattle.panel.proofs.ranges.in_ranges.Statement.{statement}
 use Rattle.panel.proofs.ranges.in_ranges.Tie as tie
-use Rattle.panel.proofs.ranges.in_ranges.Reads as reads
-use Rattle.panel.proofs.ranges.in_ranges.Lts as lts
-use Rattle.panel.proofs.ranges.keys_in_range.Reads as keys-in-range-reads
-use Rattle.panel.proofs.ranges.settings_in_range.Reads as settings-in-range-reads
 
 settings-in-range-requires : tie.Need-settings-in-range-requires
 settings-in-range-requires c κs = search needs

@@ -2,8 +2,6 @@ use mathlib.Core.Path.{refl}
 use Rattle.panel.specs.Ranges.{keysInRange}
 use Rattle.panel.proofs.ranges.keys_in_range.Statement.{statement}
 use Rattle.panel.proofs.ranges.keys_in_range.Tie as tie
-use Rattle.panel.proofs.ranges.keys_in_range.Reads as reads
-use Rattle.panel.proofs.ranges.keys_in_range.Lts as lts
 
 returns : tie.Need-returns
 unfolding keysInRange

@@ -2,10 +2,6 @@ use Rattle.panel.specs.Ranges.{numbersInRange, settingsInRange}
 use borrow.Author.Needs.{needs}
 use Rattle.panel.proofs.ranges.parts_in_range.Statement.{statement}
 use Rattle.panel.proofs.ranges.parts_in_range.Tie as tie
-use Rattle.panel.proofs.ranges.parts_in_range.Reads as reads
-use Rattle.panel.proofs.ranges.parts_in_range.Lts as lts
-use Rattle.lists.proofs.all_at_most.Reads as all-at-most-reads
-use Rattle.panel.proofs.ranges.configs_in_range.Reads as configs-in-range-reads
 
 all-at-most-requires : tie.Need-all-at-most-requires
 all-at-most-requires c κs = search needs

@@ -2,9 +2,6 @@ use Rattle.panel.specs.Ranges.{numbersInRange, settingsInRange}
 use borrow.Author.Needs.{needs}
 use Rattle.panel.proofs.ranges.settings_in_range.Statement.{statement}
 use Rattle.panel.proofs.ranges.settings_in_range.Tie as tie
-use Rattle.panel.proofs.ranges.settings_in_range.Reads as reads
-use Rattle.panel.proofs.ranges.settings_in_range.Lts as lts
-use Rattle.panel.proofs.ranges.parts_in_range.Reads as parts-in-range-reads
 
 slice-aggregate-parts-in-range : tie.Need-slice-aggregate-parts-in-range
 slice-aggregate-parts-in-range c = search needs

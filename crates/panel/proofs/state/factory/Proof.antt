@@ -2,8 +2,6 @@ use mathlib.Core.Path.{refl}
 use Rattle.panel.specs.State.{factorySettings}
 use Rattle.panel.proofs.state.factory.Statement.{statement}
 use Rattle.panel.proofs.state.factory.Tie as tie
-use Rattle.panel.proofs.state.factory.Reads as reads
-use Rattle.panel.proofs.state.factory.Lts as lts
 
 returns : tie.Need-returns
 unfolding factorySettings

@@ -2,10 +2,6 @@ use Rattle.panel.specs.State.{poweredOn}
 use borrow.Author.Needs.{needs}
 use Rattle.panel.proofs.state.powered_on.Statement.{statement}
 use Rattle.panel.proofs.state.powered_on.Tie as tie
-use Rattle.panel.proofs.state.powered_on.Reads as reads
-use Rattle.panel.proofs.state.powered_on.Lts as lts
-use Rattle.packets.proofs.hold.empty.Reads as empty-reads
-use Rattle.panel.proofs.state.factory.Reads as factory-reads
 
 factory-requires : tie.Need-factory-requires
 factory-requires c κs = search needs

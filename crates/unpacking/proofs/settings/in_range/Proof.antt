@@ -3,9 +3,6 @@ use Rattle.layout.specs.Settings.{settingsOf}
 use borrow.Author.Needs.{needs}
 use Rattle.unpacking.proofs.settings.in_range.Statement.{statement}
 use Rattle.unpacking.proofs.settings.in_range.Tie as tie
-use Rattle.unpacking.proofs.settings.in_range.Reads as reads
-use Rattle.unpacking.proofs.settings.in_range.Lts as lts
-use Rattle.panel.proofs.ranges.parts_in_range.Reads as parts-in-range-reads
 
 shared-slice-read-parts-in-range : tie.Need-shared-slice-read-parts-in-range
 shared-slice-read-parts-in-range c = search needs

@@ -6,9 +6,6 @@ use Rattle.layout.specs.Settings.{settingsOf}
 use borrow.Author.Needs.{needs}
 use Rattle.unpacking.proofs.settings.settings_of.Statement.{statement}
 use Rattle.unpacking.proofs.settings.settings_of.Tie as tie
-use Rattle.unpacking.proofs.settings.settings_of.Reads as reads
-use Rattle.unpacking.proofs.settings.settings_of.Lts as lts
-use Rattle.lists.proofs.paste.Reads as paste-reads
 
 slice-aggregate-paste : tie.Need-slice-aggregate-paste
 slice-aggregate-paste c = search needs

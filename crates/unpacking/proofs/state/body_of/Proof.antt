@@ -5,11 +5,6 @@ use Rattle.layout.specs.State.{bodyOf}
 use borrow.Author.Needs.{needs}
 use Rattle.unpacking.proofs.state.body_of.Statement.{statement}
 use Rattle.unpacking.proofs.state.body_of.Tie as tie
-use Rattle.unpacking.proofs.state.body_of.Reads as reads
-use Rattle.unpacking.proofs.state.body_of.Lts as lts
-use Rattle.unpacking.proofs.settings.settings_of.Reads as settings-of-reads
-use Rattle.unpacking.proofs.state.pins_of.Reads as pins-of-reads
-use Rattle.lists.proofs.paste.Reads as paste-reads
 
 sub-settings-of : tie.Need-sub-settings-of
 sub-settings-of c = search needs

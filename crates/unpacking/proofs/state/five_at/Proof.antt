@@ -3,8 +3,6 @@ use Rattle.layout.specs.State.{fiveAt}
 use borrow.Author.Needs.{needs}
 use Rattle.unpacking.proofs.state.five_at.Statement.{statement}
 use Rattle.unpacking.proofs.state.five_at.Tie as tie
-use Rattle.unpacking.proofs.state.five_at.Reads as reads
-use Rattle.unpacking.proofs.state.five_at.Lts as lts
 
 shared-slice-read-t4 : tie.Need-shared-slice-read-t4
 shared-slice-read-t4 c = search needs

@@ -5,10 +5,6 @@ use Rattle.layout.specs.State.{holdOf}
 use borrow.Author.Needs.{needs}
 use Rattle.unpacking.proofs.state.hold_of.Statement.{statement}
 use Rattle.unpacking.proofs.state.hold_of.Tie as tie
-use Rattle.unpacking.proofs.state.hold_of.Reads as reads
-use Rattle.unpacking.proofs.state.hold_of.Lts as lts
-use Rattle.lists.proofs.paste.Reads as paste-reads
-use Rattle.lists.proofs.wide.Reads as wide-reads
 
 slice-aggregate-paste : tie.Need-slice-aggregate-paste
 slice-aggregate-paste c = search needs

@@ -9,10 +9,6 @@ use Rattle.unpacking.specs.State.{acceptable}
 use borrow.Author.Needs.{needs}
 use Rattle.unpacking.proofs.state.in_ranges.Statement.{statement}
 use Rattle.unpacking.proofs.state.in_ranges.Tie as tie
-use Rattle.unpacking.proofs.state.in_ranges.Reads as reads
-use Rattle.unpacking.proofs.state.in_ranges.Lts as lts
-use Rattle.lists.proofs.all_at_most.Reads as all-at-most-reads
-use Rattle.unpacking.proofs.settings.in_range.Reads as in-range-reads
 
 sub-all-at-most : tie.Need-sub-all-at-most
 sub-all-at-most c = search needs

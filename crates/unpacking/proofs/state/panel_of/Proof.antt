@@ -2,11 +2,6 @@ use Rattle.layout.specs.State.{panelOf}
 use borrow.Author.Needs.{needs}
 use Rattle.unpacking.proofs.state.panel_of.Statement.{statement}
 use Rattle.unpacking.proofs.state.panel_of.Tie as tie
-use Rattle.unpacking.proofs.state.panel_of.Reads as reads
-use Rattle.unpacking.proofs.state.panel_of.Lts as lts
-use Rattle.unpacking.proofs.state.body_of.Reads as body-of-reads
-use Rattle.unpacking.proofs.state.hold_of.Reads as hold-of-reads
-use Rattle.unpacking.proofs.state.unfiled_of.Reads as unfiled-of-reads
 
 hold-of-requires : tie.Need-hold-of-requires
 hold-of-requires c κs = search needs

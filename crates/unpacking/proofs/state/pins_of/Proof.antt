@@ -2,9 +2,6 @@ use Rattle.layout.specs.State.{bodyOf}
 use borrow.Author.Needs.{needs}
 use Rattle.unpacking.proofs.state.pins_of.Statement.{statement}
 use Rattle.unpacking.proofs.state.pins_of.Tie as tie
-use Rattle.unpacking.proofs.state.pins_of.Reads as reads
-use Rattle.unpacking.proofs.state.pins_of.Lts as lts
-use Rattle.unpacking.proofs.state.five_at.Reads as five-at-reads
 
 five-at-requires : tie.Need-five-at-requires
 five-at-requires c κs = search needs

@@ -8,11 +8,6 @@ use Rattle.lists.proofs.Laws.{when-true, when-false}
 use borrow.Author.Needs.{needs}
 use Rattle.unpacking.proofs.state.read.Statement.{statement}
 use Rattle.unpacking.proofs.state.read.Tie as tie
-use Rattle.unpacking.proofs.state.read.Reads as reads
-use Rattle.unpacking.proofs.state.read.Lts as lts
-use Rattle.unpacking.proofs.state.panel_of.Reads as panel-of-reads
-use Rattle.unpacking.proofs.state.unread.Reads as unread-reads
-use Rattle.lists.proofs.all_at_most.Reads as all-at-most-reads
 
 unread-requires : tie.Need-unread-requires
 unread-requires c κs = search needs

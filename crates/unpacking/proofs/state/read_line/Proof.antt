@@ -5,12 +5,6 @@ use Rattle.unpacking.specs.State.{lineOf}
 use borrow.Author.Needs.{needs}
 use Rattle.unpacking.proofs.state.read_line.Statement.{statement}
 use Rattle.unpacking.proofs.state.read_line.Tie as tie
-use Rattle.unpacking.proofs.state.read_line.Reads as reads
-use Rattle.unpacking.proofs.state.read_line.Lts as lts
-use Rattle.packets.proofs.hold.empty.Reads as empty-reads
-use Rattle.unpacking.proofs.state.hold_of.Reads as hold-of-reads
-use Rattle.unpacking.proofs.state.in_ranges.Reads as in-ranges-reads
-use Rattle.unpacking.proofs.state.unfiled_of.Reads as unfiled-of-reads
 
 empty-requires : tie.Need-empty-requires
 empty-requires c κs = search needs

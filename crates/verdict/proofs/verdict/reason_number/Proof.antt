@@ -1,8 +1,6 @@
 use borrow.Author.Needs.{needs}
 use Rattle.verdict.proofs.verdict.reason_number.Statement.{statement}
 use Rattle.verdict.proofs.verdict.reason_number.Tie as tie
-use Rattle.verdict.proofs.verdict.reason_number.Reads as reads
-use Rattle.verdict.proofs.verdict.reason_number.Lts as lts
 
 enum-told : tie.Need-enum-told
 enum-told c = search needs
