@@ -48,13 +48,17 @@ unfoldable pub decided {ℓ} : {A : Type ℓ} → List Check → (Answer → A) 
 decided [] refused accepted = accepted
 decided (check passes answer ∷ checks) refused accepted = when passes then decided checks refused accepted else refused answer
 
+-- a call that takes nothing of the line: all counts 0, no cells listed, and a reply of some length
+abbrev pub nothingTaken : Panel → Answer → ℕ → Said
+nothingTaken p a reply = record { panel = p; answer = a; taken = 0; dropped = 0; checked = 0; reply = reply; listed = 0 }
+
 -- "'Nothing' means state unchanged, all counts 0, no cells listed."
 abbrev pub refusedCall : Panel → Answer → Said
-refusedCall p a = record { panel = p; answer = a; taken = 0; dropped = 0; checked = 0; reply = 0; listed = 0 }
+refusedCall p a = nothingTaken p a 0
 
 -- "An accepted key, pin or power-on call answers 3."
 abbrev pub acceptedCall : Panel → ℕ → Said
-acceptedCall p reply = record { panel = p; answer = Done 0; taken = 0; dropped = 0; checked = 0; reply = reply; listed = 0 }
+acceptedCall p reply = nothingTaken p (Done 0) reply
 
 -- what a call says, with another unfiled number
 abbrev pub withUnfiled : Said → ℕ → Said

@@ -1,6 +1,6 @@
 // What a call says.
 ghost use mathlib.Core.Path.{_≡_};
-ghost use Rattle.answers.specs.Answer.{Tells, Hands, Refuses, Accepts};
+ghost use Rattle.answers.specs.Answer.{Tells, Hands, nothingTaken, Refuses, Accepts};
 use filing::Refusal;
 use panel::state::Panel;
 use verdict::verdict::Reason;
@@ -101,9 +101,9 @@ pub fn to_file(answer: Answer) -> Filing
     }
 }
 
-// A call that is refused by number: nothing is changed.
-pub fn refused_call(p: Panel, answer: Answer) -> Said
-    ensures { λ r. ⌜ Refuses p answer r ⌝ }
+// A call that takes nothing of the line: all counts are 0, and no cell is listed.
+fn nothing_taken(p: Panel, answer: Answer, reply: usize) -> Said
+    ensures { λ r. ⌜ r ≡ nothingTaken p answer reply ⌝ }
 {
     Said {
         panel: p,
@@ -111,22 +111,21 @@ pub fn refused_call(p: Panel, answer: Answer) -> Said
         taken: 0,
         dropped: 0,
         checked: 0,
-        reply: 0,
+        reply,
         listed: 0,
     }
+}
+
+// A call that is refused by number: nothing is changed.
+pub fn refused_call(p: Panel, answer: Answer) -> Said
+    ensures { λ r. ⌜ Refuses p answer r ⌝ }
+{
+    nothing_taken(p, answer, 0)
 }
 
 // A key, pin or power-on call that is accepted, with a reply of so many bytes.
 pub fn accepted_call(p: Panel, reply: usize) -> Said
     ensures { λ r. ⌜ Accepts p reply r ⌝ }
 {
-    Said {
-        panel: p,
-        answer: Answer::Done(0),
-        taken: 0,
-        dropped: 0,
-        checked: 0,
-        reply,
-        listed: 0,
-    }
+    nothing_taken(p, Answer::Done(0), reply)
 }

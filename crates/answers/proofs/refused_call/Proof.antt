@@ -2,8 +2,11 @@ use borrow.Author.Needs.{needs}
 use Rattle.answers.proofs.refused_call.Statement.{statement}
 use Rattle.answers.proofs.refused_call.Tie as tie
 
+nothing-taken-requires : tie.Need-nothing-taken-requires
+nothing-taken-requires c κs = search needs
+
 returns : tie.Need-returns
 returns c = search needs
 
 pub refused-call-spec : {M : Type 1} → statement M
-refused-call-spec = tie.close (tie.spec returns)
+refused-call-spec = tie.close (tie.spec nothing-taken-requires returns)
