@@ -14,7 +14,7 @@ use Rattle.panel.specs.Ranges.{inRanges}
 use Rattle.answers.specs.declared.Answer.{Answer}
 use Rattle.answers.specs.declared.Said.{Said}
 use Rattle.answers.specs.declared.Answer.the-variants.{Waiting}
-use Rattle.answers.specs.Answer.{numbersOf, Check, check, decided, refusedCall, acceptedCall}
+use Rattle.answers.specs.Answer.{numbersOf, Check, decided, refusedCall, acceptedCall}
 use Rattle.command.specs.Hear.{scannedBy, Hears}
 use Rattle.answers.proofs.Checks.{Fails, Pass, ByNumber, answers-by-number, refused-by, accepted-by, either-way}
 use Rattle.framing.specs.declared.scan.Scanned.{Scanned}

@@ -1,4 +1,4 @@
-// What a packet from the line is answered, and the reply to it in bytes: the panel's state has no part in either.
+// What a packet from the line is answered, in which the panel's state has no part, and a reply written as bytes.
 ghost use Rattle.replies.specs.Reply.{AnswersTo, Replies, RepliesRefused};
 use answers::Answer;
 use packets::packet::Packet;

@@ -14,26 +14,34 @@ use Rattle.filing.specs.Filing.{counts}
 use Rattle.answers.specs.Answer.{numbersOf}
 use Rattle.paint.specs.Draw.{cellDrawn, shownBy, placeOf, drawn}
 use Rattle.paint.specs.Repaint.{ListedIn}
-use Rattle.picture.specs.Calls.{lent, powerSaid, PowersOn}
+use Rattle.picture.specs.Calls.{powerSaid, PowersOn}
 use Rattle.layout.specs.State.{bytesOf, panelOf, readable, PanelFits}
 use Rattle.layout.specs.Faults.{recordsOf}
 use Rattle.naupelys.specs.Calls.{PowerOnBytes}
+use Rattle.panel.specs.Ranges.{inRanges}
+use Rattle.panel.proofs.Theorems.{power-on-in-range}
 use Rattle.sequences.specs.Run.{Call, line, World, Runs}
 use Rattle.sequences.specs.Run as run
-use Rattle.sequences.specs.Library.{Kept, Returns, refusals, Library, done, more, recordsLent, Stands}
+use Rattle.sequences.specs.Library.{Kept, Returns, refusals, Library, done, more, recordsLent, StandsFor}
 use Rattle.sequences.proofs.Fits.{power-fits, Small, each-small}
 use Rattle.sequences.proofs.Theorems as panel
 use Rattle.naupelys.proofs.Together.{power-panel}
-use Rattle.sequences.proofs.Standing.{is-read, same-panel, rises, exactly, unlisted-stay, refused-leaves, quiet-leaves, one-step}
+use Rattle.sequences.proofs.Standing.{made-in-range, is-read, same-panel, rises, exactly, unlisted-stay, refused-leaves, quiet-leaves, one-step}
 
 -- A sequence of the library's calls on bytes that stand for a world is one of the panel's own calls on that world, with the same
 -- packets refused, and the bytes stand for the world that it comes to.
-pub as-the-panel : {font : List ℕ} {cs : List Call} {k l : Kept} {n : ℕ} → Library font cs k l n → (w : World) → Stands k w → (v : World) × Runs font cs w v n × Stands l v
+pub as-the-panel : {font : List ℕ} {cs : List Call} {k l : Kept} {n : ℕ} → Library font cs k l n → (w : World) → StandsFor k w → (v : World) × Runs font cs w v n × StandsFor l v
 as-the-panel done w s = (w, run.done, s)
 as-the-panel {font} (more {c} n m r) w s =
     let a = one-step font c n s m in
     let b = as-the-panel r (a .0) (a .2) in
     (b .0, run.more (refusals n) (a .1) (b .1), b .2)
+
+-- and they keep the state in its ranges
+still-in-range : {font : List ℕ} {cs : List Call} {k l : Kept} {n : ℕ} → Library font cs k l n → (w : World) → StandsFor k w → inRanges (w .panel) ≡ true → inRanges (panelOf (l .state)) ≡ true
+still-in-range done w s h = rw (same-panel s) h
+still-in-range {font} (more {c} n m r) w s h =
+    let a = one-step font c n s m in still-in-range r (a .0) (a .2) (made-in-range font c w (a .0) (refusals n) (omega (arith, s .fits .0)) (a .1) h)
 
 -- what bytes of a register hold is small
 small-records : (faults : List ℕ) → ((j : ℕ) → getD faults j 0 < 256) → (n : ℕ) → Every Small (recordsOf n faults)
@@ -66,7 +74,7 @@ module _ (font state picture faults : List ℕ) (number : ℕ) (state′ picture
   below : numbersOf (powerSaid picture font .answer) .number < 10
   below = rw (on .0 ∙ when-true _ _ _ has-room) at accepted
 
-  started-stands : Stands first started
+  started-stands : StandsFor first started
   started-stands = record {
     state = on .1 ∙ when-true _ _ _ has-room ∙ ap bytesOf (sym (power-panel picture font));
     fits = subst PanelFits (sym (power-panel picture font)) power-fits;
@@ -84,6 +92,10 @@ module _ (font state picture faults : List ℕ) (number : ℕ) (state′ picture
         let b = as-the-panel made started started-stands in
         let f = panel.drawn-afresh font picture picture′ (powerSaid picture font) (recordsLent faults) cs (b .0) n powered below (b .1) in
         (is-read (b .2), b .2 .picture ∙ f ∙ ap (λ (p : Panel). drawn (shownBy (p .body .live)) font) (sym (same-panel (b .2))))
+
+    -- That state is in its ranges, so that no call is refused for it.
+    pub in-range : inRanges (panelOf (k .state)) ≡ true
+    in-range = still-in-range made started started-stands (rw (power-panel picture font) power-on-in-range)
 
     -- If the register's records were all free, then, below 4,294,967,296 refusals, their counts plus the state's unfiled number
     -- equal the packets refused: the calls that returned 4.

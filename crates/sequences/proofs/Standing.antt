@@ -17,13 +17,13 @@ use Rattle.filing.specs.Filing.{Files, counts, filedIf}
 use Rattle.filing.proofs.Theorems.{length-filed}
 use Rattle.answers.specs.declared.Said.{Said}
 use Rattle.answers.specs.Answer.{Check, decided, numbersOf, filingOf, refusedCall, withUnfiled}
-use Rattle.answers.proofs.Checks.{ByNumber, refused-by, accepted-by, either-way, answers-by-number}
+use Rattle.answers.proofs.Checks.{ByNumber, refused-by, accepted-by, either-way, answers-by-number, call-in-range}
 use Rattle.events.specs.Keys.{keyChecks, keyAccepted, keySaid, keyReply}
 use Rattle.events.specs.Pins.{pinChecks, pinAccepted, pinSaid}
 use Rattle.events.proofs.KeyCalls.{key-by-number}
 use Rattle.paint.specs.Draw.{cellDrawn, shownBy, placeOf}
 use Rattle.paint.specs.Repaint.{ListedIn}
-use Rattle.picture.specs.Calls.{Lent, lent, lineSaid, linePicture, lineList, lineReply}
+use Rattle.picture.specs.Calls.{lineChecks, Lent, lent, lineSaid, linePicture, lineList, lineReply, heard, altered, withListed}
 use Rattle.whole.specs.Whole.{filesAfter}
 use Rattle.layout.specs.State.{bytesOf, panelOf, readable, PanelFits}
 use Rattle.layout.specs.Faults.{recordsOf, registerBytes, registerOf, faultsWith}
@@ -33,8 +33,13 @@ use Rattle.layout.proofs.Records.{length-records, length-bytes}
 use Rattle.layout.proofs.Theorems.{panel-read-back, register-read-back}
 use Rattle.linecall.specs.Line.{recordsIn, filesBy, faultsAfter, lineFiled}
 use Rattle.linecall.proofs.OnState.{is-on}
+use Rattle.panel.specs.Ranges.{inRanges}
+use Rattle.command.specs.Hear.{scannedBy, replyBy}
+use Rattle.sequences.specs.Story.{presses, moves}
+use Rattle.sequences.proofs.Hears.{hear-stays-in-range}
+use Rattle.sequences.proofs.OtherCalls.{made-in-range as other-in-range}
 use Rattle.sequences.specs.Run.{Call, line, key, pin, World, refusedIn, Makes}
-use Rattle.sequences.specs.Library.{Kept, Returns, refusals, recordsLent, Stands}
+use Rattle.sequences.specs.Library.{Kept, Returns, refusals, recordsLent, StandsFor}
 use Rattle.sequences.proofs.Calls.{refused-call-changes-nothing}
 use Rattle.sequences.proofs.Calls as calls
 use Rattle.sequences.proofs.Bytes.{state-kept, faults-kept, line-says}
@@ -67,7 +72,7 @@ state-after : (state : List ℕ) (r : Said) → numberOf r < 10 → stateAfter s
 unfolding stateAfter
 state-after state r h = when-true _ _ _ (lt-ltb _ _ h)
 
-module _ {k : Kept} {w : World} (s : Stands k w) where
+module _ {k : Kept} {w : World} (s : StandsFor k w) where
   pub is-read : readable (k .state) ≡ true
   is-read = ap readable (s .state) ∙ panel-read-back (w .panel) (s .fits) .0
 
@@ -98,9 +103,9 @@ module _ (p : Panel) (checks : List Check) (accepted : Said) (numbers : ByNumber
   other-fits : PanelFits p → PanelFits (accepted .panel) → PanelFits (r .panel)
   other-fits h g = either-way checks (λ a f. rw (refused-by f (refusedCall p) accepted) h) (λ q. rw (accepted-by checks q (refusedCall p) accepted) g)
 
-module _ (font : List ℕ) {k : Kept} {w : World} (s : Stands k w) where
+module _ (font : List ℕ) {k : Kept} {w : World} (s : StandsFor k w) where
   key-step : (number : ℕ) (down : Bool) (reply : List ℕ) (l : Kept) (n : ℕ) → Returns font (key number down reply) k l n
-      → (v : World) × Makes font (key number down reply) w v (refusals n) × Stands l v
+      → (v : World) × Makes font (key number down reply) w v (refusals n) × StandsFor l v
   unfolding numbersOf
   key-step number down reply l n m =
       let p = w .panel in
@@ -121,7 +126,7 @@ module _ (font : List ℕ) {k : Kept} {w : World} (s : Stands k w) where
         },
       )
 
-  pin-step : (number : ℕ) (high : Bool) (l : Kept) (n : ℕ) → Returns font (pin number high) k l n → (v : World) × Makes font (pin number high) w v (refusals n) × Stands l v
+  pin-step : (number : ℕ) (high : Bool) (l : Kept) (n : ℕ) → Returns font (pin number high) k l n → (v : World) × Makes font (pin number high) w v (refusals n) × StandsFor l v
   unfolding numbersOf
   pin-step number high l n m =
       let p = w .panel in
@@ -178,7 +183,7 @@ module _ (font : List ℕ) {k : Kept} {w : World} (s : Stands k w) where
     faults-is : l .faults ≡ faultsAfter (t .answer) (t .panel .unfiled) (k .faults)
     faults-is = m .3 .5 ∙ on-call (k .faults) (λ (q : Panel) (x : Lent). faultsAfter (lineSaid q x .answer) (lineSaid q x .panel .unfiled) (k .faults))
 
-    refused-stands : 10 ≤ numberOf t → Stands l after
+    refused-stands : 10 ≤ numberOf t → StandsFor l after
     refused-stands h =
         let u = refused-call-changes-nothing p o (w .register) (withUnfiled t (files .unfiled)) _ _ _ _ (refl, refl, refl, refl, refl) h in
         let same : after .panel ≡ p = ap (λ (x : Said). x .panel) (u .0) in
@@ -216,7 +221,7 @@ module _ (font : List ℕ) {k : Kept} {w : World} (s : Stands k w) where
           ∙ ap recordsLent (ap (λ (f : Files). registerBytes (f .register)) (sym same-files) ∙ sym (when-true _ _ _ (eq-eqb (length (k .faults)) 448 is-448)) ∙ sym (when-true _ _ _ e))
       records-stand false e = ap (λ (f : Files). f .register) (when-false _ _ _ e) ∙ s .register ∙ ap recordsLent (sym (when-false _ _ _ e))
 
-      accepted-stands : Stands l after
+      accepted-stands : StandsFor l after
       accepted-stands =
           let f = said-fits in
           record {
@@ -227,10 +232,10 @@ module _ (font : List ℕ) {k : Kept} {w : World} (s : Stands k w) where
             counts = each-small (files .register) (files-fit .0);
           }
 
-    stands : Stands l after
+    stands : StandsFor l after
     stands = dite (decLt (numberOf t) 10) accepted-stands (λ h. refused-stands (omega arith))
 
-    line-step : (v : World) × Makes font (line piece list reply) w v (refusals n) × Stands l v
+    line-step : (v : World) × Makes font (line piece list reply) w v (refusals n) × StandsFor l v
     unfolding refusedIn refusals
     line-step = (after, (withUnfiled t (files .unfiled), lineList p o, lineReply p o, (refl, refl, refl, refl, refl), refl, ap refusals number-is), stands)
 
@@ -288,7 +293,18 @@ module _ (font : List ℕ) {k : Kept} {w : World} (s : Stands k w) where
           faults-is ∙ when-false _ _ _ (ne-eqb (numberOf t) 4 (λ e. absurd (omega arith))),
         )
 
-pub one-step : (font : List ℕ) (c : Call) {k l : Kept} {w : World} (n : ℕ) → Stands k w → Returns font c k l n → (v : World) × Makes font c w v (refusals n) × Stands l v
+pub one-step : (font : List ℕ) (c : Call) {k l : Kept} {w : World} (n : ℕ) → StandsFor k w → Returns font c k l n → (v : World) × Makes font c w v (refusals n) × StandsFor l v
 one-step font (line piece list reply) n s m = line-step font s piece list reply _ n m
 one-step font (key number down reply) n s m = key-step font s number down reply _ n m
 one-step font (pin number high) n s m = pin-step font s number high _ n m
+
+-- each call leaves a panel in its ranges
+pub made-in-range : (font : List ℕ) (c : Call) (w v : World) (n : ℕ) → length (w .panel .hold .bytes) ≤ 25 → Makes font c w v n → inRanges (w .panel) ≡ true → inRanges (v .panel) ≡ true
+unfolding inRanges
+made-in-range font (line piece list reply) w v n few m h =
+    let p = w .panel in
+    let l = lent piece (w .picture) font list reply (length (w .register)) in
+    let e = call-in-range p (lineChecks p l) (withListed (heard p l) (length (altered p l))) (lineSaid p l) refl (λ _. hear-stays-in-range p piece reply (heard p l) (replyBy p (scannedBy p piece) reply) (refl, refl) h few) h in
+    rw (m .4, m .3 .0) e
+made-in-range font (key number down reply) w v n few m h = rw (m .5) (other-in-range (presses {number = number} {down = down} {p = w .panel} {out = reply} {r = m .0} {out′ = m .1} (m .2)) h)
+made-in-range font (pin number high) w v n few m h = rw (m .4) (other-in-range (moves {number = number} {high = high} {p = w .panel} {out = []} {r = m .0} (m .1)) h)

@@ -47,7 +47,7 @@ recordsLent faults = when length faults =? 448 then recordsOf 64 faults else []
 
 -- the bytes stand for a panel, a picture and a register: the state is the panel, written, and the register is what its bytes are;
 -- sizes and counts are what their types allow
-pub record Stands (k : Kept) (w : World) : Type 0 where
+pub record StandsFor (k : Kept) (w : World) : Type 0 where
   pub state : k .state ≡ bytesOf (w .panel)
   pub fits : PanelFits (w .panel)
   pub picture : k .picture ≡ w .picture
