@@ -16,4 +16,5 @@ mod Stories
 mod Worked
 pub mod Theorems
 mod Standing
+mod Cutting
 pub mod Library

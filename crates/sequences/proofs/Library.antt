@@ -3,7 +3,7 @@ use Prim.Native.Nat.{ℕ, zero, suc, _+_, _*_, _<_, _≤_}
 use mathlib.Core.Path.{_≡_, refl, sym, _∙_, ap, subst}
 use mathlib.Core.Logic.{_≢_, _↔_}
 use mathlib.Core.Bool.{Bool, true, false}
-use mathlib.Core.List.{List}
+use mathlib.Core.List.{List, map}
 use native.Mathlib.Omega.{arith}
 use lib.ListN.{length, getD}
 use Rattle.lists.specs.Tests.{_=?_}
@@ -26,6 +26,9 @@ use Rattle.sequences.specs.Library.{Kept, Returns, refusals, Library, do
 use Rattle.sequences.proofs.Fits.{power-fits, Small, each-small}
 use Rattle.sequences.proofs.Theorems as panel
 use Rattle.naupelys.proofs.Together.{power-panel}
+use Rattle.sequences.specs.Story.{places}
+use Rattle.sequences.specs.Cuts.{Note, Cut, placesIn}
+use Rattle.sequences.proofs.Cutting.{noteOf, same-places, as-a-story}
 use Rattle.sequences.proofs.Standing.{made-in-range, is-read, same-panel, rises, exactly, unlisted-stay, refused-leaves, quiet-leaves, one-step}
 
 -- A sequence of the library's calls on bytes that stand for a world is one of the panel's own calls on that world, with the same
@@ -104,6 +107,28 @@ module _ (font state picture faults : List ℕ) (number : ℕ) (state′ picture
         let b = as-the-panel made started started-stands in
         let f = panel.counts-add-up font picture picture′ (powerSaid picture font) (recordsLent faults) cs (b .0) n powered e (b .1) h in
         rw (← (b .2 .register), same-panel (b .2)) f
+
+    -- The same bytes of a line, cut into line calls in any two ways from then on and repeated until all is taken and the number is 1,
+    -- with the same key and pin calls after the same packets, come to the same answers and replies, the same state, the same picture
+    -- and the same records.
+    pub cut-anywhere : {bytes : List ℕ} {notes notes′ : List Note} {l l′ : Kept} → Cut font k bytes notes l → Cut font k bytes notes′ l′ → placesIn 0 notes ≡ placesIn 0 notes′
+        → (notes ≡ notes′) × (l .state ≡ l′ .state) × (l .picture ≡ l′ .picture) × (recordsLent (l .faults) ≡ recordsLent (l′ .faults))
+    cut-anywhere c c′ e =
+        let b = as-the-panel made started started-stands in
+        let s = b .2 in
+        let x = as-a-story c (b .0) s in
+        let y = as-a-story c′ (b .0) s in
+        let h : inRanges (b .0 .panel) ≡ true = ap inRanges (sym (same-panel s)) ∙ in-range in
+        let n : length (b .0 .panel .hold .bytes) ≤ 25 = omega (arith, s .fits .0) in
+        let p : places 0 (x .0) ≡ places 0 (y .0) = sym (same-places 0 (x .0)) ∙ ap (placesIn 0) (x .4) ∙ e ∙ sym (ap (placesIn 0) (y .4)) ∙ same-places 0 (y .0) in
+        let q = panel.cut-anywhere h n (x .2) (y .2) p in
+        let f = panel.drawn-afresh font picture picture′ (powerSaid picture font) (recordsLent faults) cs (b .0) _ powered below (b .1) in
+        let g = panel.cut-anywhere-paints-alike h n f (x .2) (y .2) p in (
+          sym (x .4) ∙ ap (map noteOf) (q .0) ∙ y .4,
+          x .3 .state ∙ ap bytesOf (q .1) ∙ sym (y .3 .state),
+          x .3 .picture ∙ g ∙ sym (y .3 .picture),
+          sym (x .3 .register) ∙ q .2 ∙ y .3 .register,
+        )
 
     -- Then a line call, and what it lists by the count in its 16 bytes:
     module _ (piece list reply : List ℕ) (l : Kept) (number′ : ℕ) (m : Returns font (line piece list reply) k l number′) where

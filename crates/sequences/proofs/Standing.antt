@@ -79,7 +79,7 @@ module _ {k : Kept} {w : World} (s : StandsFor k w) where
   pub same-panel : panelOf (k .state) ≡ w .panel
   same-panel = ap panelOf (s .state) ∙ panel-read-back (w .panel) (s .fits) .1
 
-  on-panel : {A : Type 0} (x : A) (f : Panel → A) → onState (k .state) x f ≡ f (w .panel)
+  pub on-panel : {A : Type 0} (x : A) (f : Panel → A) → onState (k .state) x f ≡ f (w .panel)
   on-panel x f = is-on _ _ _ is-read ∙ ap f same-panel
 
 -- a key or pin call: its checks decide between the panel as it was and the one after the event
@@ -104,74 +104,92 @@ module _ (p : Panel) (checks : List Check) (accepted : Said) (numbers : ByNumber
   other-fits h g = either-way checks (λ a f. rw (refused-by f (refusedCall p) accepted) h) (λ q. rw (accepted-by checks q (refusedCall p) accepted) g)
 
 module _ (font : List ℕ) {k : Kept} {w : World} (s : StandsFor k w) where
-  key-step : (number : ℕ) (down : Bool) (reply : List ℕ) (l : Kept) (n : ℕ) → Returns font (key number down reply) k l n
-      → (v : World) × Makes font (key number down reply) w v (refusals n) × StandsFor l v
-  unfolding numbersOf
-  key-step number down reply l n m =
-      let p = w .panel in
-      let c = keyChecks p number down reply in
-      let a = keyAccepted p number down in
-      let r = keySaid p number down reply in
-      let b = key-by-number p number down reply in
-      let v : World = record { panel = r .panel; picture = w .picture; register = w .register } in
-      let e : n ≡ numberOf r = m .2 .0 ∙ on-panel s 10 (λ (q : Panel). numberOf (keySaid q number down reply)) in (
-        v,
-        (r, keyReply p number down reply, (refl, refl), refl, refl, refl, ap refusals e ∙ other-refusals p c a b refl),
+  module _ (number : ℕ) (down : Bool) (reply : List ℕ) (l : Kept) (n : ℕ) (m : Returns font (key number down reply) k l n) where
+    abbrev pub pressed : Said
+    pressed = keySaid (w .panel) number down reply
+
+    key-number-is : n ≡ numberOf pressed
+    key-number-is = m .2 .0 ∙ on-panel s 10 (λ (q : Panel). numberOf (keySaid q number down reply))
+
+    pub key-stands : StandsFor l (record { panel = pressed .panel; picture = w .picture; register = w .register })
+    unfolding numbersOf
+    key-stands =
+        let c = keyChecks (w .panel) number down reply in
+        let a = keyAccepted (w .panel) number down in
+        let b = key-by-number (w .panel) number down reply in
         record {
-          state = m .2 .1 ∙ on-panel s (k .state) (λ (q : Panel). stateAfter (k .state) (keySaid q number down reply)) ∙ other-state p c a b refl (k .state) (s .state);
-          fits = other-fits p c a b refl (s .fits) (s .fits);
+          state = m .2 .1 ∙ on-panel s (k .state) (λ (q : Panel). stateAfter (k .state) (keySaid q number down reply)) ∙ other-state (w .panel) c a b refl (k .state) (s .state);
+          fits = other-fits (w .panel) c a b refl (s .fits) (s .fits);
           picture = m .3 ∙ s .picture;
           register = s .register ∙ ap recordsLent (sym (m .4));
           counts = s .counts;
-        },
-      )
+        }
 
-  pin-step : (number : ℕ) (high : Bool) (l : Kept) (n : ℕ) → Returns font (pin number high) k l n → (v : World) × Makes font (pin number high) w v (refusals n) × StandsFor l v
-  unfolding numbersOf
-  pin-step number high l n m =
-      let p = w .panel in
-      let c = pinChecks p number in
-      let a = pinAccepted p number high in
-      let r = pinSaid p number high in
-      let b : ByNumber c = (omega arith, (omega arith, tt)) in
-      let f = s .fits in
-      let g = pin-fits high number (p .body) (body-fits p f) in
-      let v : World = record { panel = r .panel; picture = w .picture; register = w .register } in
-      let e : n ≡ numberOf r = m .1 .0 ∙ on-panel s 10 (λ (q : Panel). numberOf (pinSaid q number high)) in (
-        v,
-        (r, refl, refl, refl, refl, ap refusals e ∙ other-refusals p c a b refl),
+    key-step : (v : World) × Makes font (key number down reply) w v (refusals n) × StandsFor l v
+    unfolding numbersOf
+    key-step = (
+      record { panel = pressed .panel; picture = w .picture; register = w .register },
+      (pressed, keyReply (w .panel) number down reply, (refl, refl), refl, refl, refl, ap refusals key-number-is ∙ other-refusals (w .panel) (keyChecks (w .panel) number down reply) (keyAccepted (w .panel) number down) (key-by-number (w .panel) number down reply) refl),
+      key-stands,
+    )
+
+  module _ (number : ℕ) (high : Bool) (l : Kept) (n : ℕ) (m : Returns font (pin number high) k l n) where
+    abbrev pub moved : Said
+    moved = pinSaid (w .panel) number high
+
+    pin-number-is : n ≡ numberOf moved
+    pin-number-is = m .1 .0 ∙ on-panel s 10 (λ (q : Panel). numberOf (pinSaid q number high))
+
+    pin-by-number : ByNumber (pinChecks (w .panel) number)
+    unfolding numbersOf
+    pin-by-number = (omega arith, (omega arith, tt))
+
+    pub pin-stands : StandsFor l (record { panel = moved .panel; picture = w .picture; register = w .register })
+    unfolding numbersOf
+    pin-stands =
+        let c = pinChecks (w .panel) number in
+        let a = pinAccepted (w .panel) number high in
+        let f = s .fits in
+        let g = pin-fits high number (w .panel .body) (body-fits (w .panel) f) in
         record {
-          state = m .1 .1 ∙ on-panel s (k .state) (λ (q : Panel). stateAfter (k .state) (pinSaid q number high)) ∙ other-state p c a b refl (k .state) (s .state);
-          fits = other-fits p c a b refl f (f .0, f .1, f .2, f .3, g .0, g .1, g .2, f .7, f .8);
+          state = m .1 .1 ∙ on-panel s (k .state) (λ (q : Panel). stateAfter (k .state) (pinSaid q number high)) ∙ other-state (w .panel) c a pin-by-number refl (k .state) (s .state);
+          fits = other-fits (w .panel) c a pin-by-number refl f (f .0, f .1, f .2, f .3, g .0, g .1, g .2, f .7, f .8);
           picture = m .2 ∙ s .picture;
           register = s .register ∙ ap recordsLent (sym (m .3));
           counts = s .counts;
-        },
-      )
+        }
+
+    pin-step : (v : World) × Makes font (pin number high) w v (refusals n) × StandsFor l v
+    unfolding numbersOf
+    pin-step = (
+      record { panel = moved .panel; picture = w .picture; register = w .register },
+      (moved, refl, refl, refl, refl, ap refusals pin-number-is ∙ other-refusals (w .panel) (pinChecks (w .panel) number) (pinAccepted (w .panel) number high) pin-by-number refl),
+      pin-stands,
+    )
 
   module _ (piece list reply : List ℕ) (l : Kept) (n : ℕ) (m : Returns font (line piece list reply) k l n) where
-    abbrev p : Panel
+    abbrev pub p : Panel
     p = w .panel
 
-    abbrev o : Lent
+    abbrev pub o : Lent
     o = lent piece (w .picture) font list reply (length (w .register))
 
-    abbrev t : Said
+    abbrev pub t : Said
     t = lineSaid p o
 
-    abbrev files : Files
+    abbrev pub files : Files
     files = filesAfter t (w .register)
 
-    abbrev after : World
+    abbrev pub after : World
     after = record { panel = withUnfiled t (files .unfiled) .panel; picture = linePicture p o; register = files .register }
 
-    records : length (w .register) ≡ recordsIn (length (k .faults))
+    pub records : length (w .register) ≡ recordsIn (length (k .faults))
     records = ap length (s .register) ∙ lent-records (k .faults)
 
-    on-call : {A : Type 0} (x : A) (f : Panel → Lent → A) → onState (k .state) x (λ (q : Panel). f q (lent piece (k .picture) font list reply (recordsIn (length (k .faults))))) ≡ f p o
+    pub on-call : {A : Type 0} (x : A) (f : Panel → Lent → A) → onState (k .state) x (λ (q : Panel). f q (lent piece (k .picture) font list reply (recordsIn (length (k .faults))))) ≡ f p o
     on-call x f = is-on _ _ _ (is-read s) ∙ (λ i. f (same-panel s i) (lent piece (s .picture i) font list reply (sym records i)))
 
-    number-is : n ≡ numberOf t
+    pub number-is : n ≡ numberOf t
     number-is = m .3 .0 ∙ on-call 10 (λ (q : Panel) (x : Lent). numberOf (lineSaid q x))
 
     state-is : l .state ≡ stateAfter (k .state) (lineFiled p o (k .faults))
@@ -232,7 +250,7 @@ module _ (font : List ℕ) {k : Kept} {w : World} (s : StandsFor k w) where
             counts = each-small (files .register) (files-fit .0);
           }
 
-    stands : StandsFor l after
+    pub stands : StandsFor l after
     stands = dite (decLt (numberOf t) 10) accepted-stands (λ h. refused-stands (omega arith))
 
     line-step : (v : World) × Makes font (line piece list reply) w v (refusals n) × StandsFor l v

@@ -3,3 +3,4 @@ pub mod Story
 pub mod Worked
 pub mod Bytes
 pub mod Library
+pub mod Cuts
