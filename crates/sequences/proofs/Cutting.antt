@@ -10,7 +10,7 @@ use Rattle.panel.specs.declared.state.Panel.{Panel}
 use Rattle.answers.specs.declared.Answer.{Answer}
 use Rattle.answers.specs.declared.Answer.the-variants.{Waiting, Stray, Done, Refused, StateOutOfRange, PieceTooLong, PictureSize, FontSize, ListSize, ReplySize, RegisterSize, KeyOrPinNumber, KeyAsTold}
 use Rattle.answers.specs.declared.Said.{Said}
-use Rattle.answers.specs.Answer.{numbersOf, withUnfiled}
+use Rattle.answers.specs.Answer.{numbersOf}
 use Rattle.events.specs.Keys.{keySaid, keyReply}
 use Rattle.events.specs.Pins.{pinSaid}
 use Rattle.picture.specs.Calls.{Lent, lent, lineSaid, lineList, lineReply}
@@ -75,7 +75,7 @@ module _ (font : List ℕ) {k : Kept} {w : World} (s : StandsFor k w) (piece out
   t = standing.t font s piece (h .list) out l (h .number) m
 
   abbrev r : Said
-  r = withUnfiled t (standing.files font s piece (h .list) out l (h .number) m .unfiled)
+  r = standing.filed font s piece (h .list) out l (h .number) m
 
   abbrev v : World
   v = standing.after font s piece (h .list) out l (h .number) m
@@ -87,7 +87,7 @@ module _ (font : List ℕ) {k : Kept} {w : World} (s : StandsFor k w) (piece out
   hears = record {
     list = h .list;
     list′ = lineList (w .panel) o;
-    called = (refl, refl, refl, refl, refl);
+    called = standing.called font s piece (h .list) out l (h .number) m;
     panel = refl;
     accepted = rw (standing.number-is font s piece (h .list) out l (h .number) m) at (h .accepted);
   }

@@ -19,6 +19,7 @@ use Rattle.glyphs.specs.Glyphs.{eightFrom}
 use Rattle.panel.specs.Ranges.{configsInRange, numbersInRange, settingsInRange, keysInRange}
 use Rattle.glyphs.proofs.Every.{Every, Passes, glyph-set-passes, all-set}
 use Rattle.carry.specs.Carry.{withTextAndCursor, withNumbers, withGlyphs, withLevels, withGlyph, withCursor, withStyle, withContrast, withBacklight, withMasks, withText, withPin, polled, liveAfter, effect}
+use Rattle.sequences.proofs.Rows.{live-rows, effect-rows}
 use Rattle.sequences.proofs.Allowed.{Sound, allowed}
 use Rattle.panel.proofs.InRange.{SettingsParts, settings-parts, settings-whole, NumbersParts, numbers-parts, numbers-whole, keys-parts, keys-whole}
 
@@ -129,33 +130,29 @@ module _ (s : Settings) (e : settingsInRange s ≡ true) where
         (λ q. let l : length d ≡ 3 = eqb-true _ _ q in all-set configAllowed (s .configs) (getD d 0 0) (getD d 2 0) (and-eq-true-iff (getD d 0 0 ≤? 4) _ .0 (h .each 2 (omega arith)) .1) (parts .configs))
         (λ _. parts .configs))
 
--- Each command's row, in the order of `liveAfter` and of `effect`.
+-- each command's row
 module _ (code : ℕ) (d : List ℕ) (v : verdictOf code d ≡ Allowed) where
   live-in-range : (s : Settings) → settingsInRange s ≡ true → settingsInRange (liveAfter code d s) ≡ true
-  unfolding liveAfter
   live-in-range s h =
-      pick 6 _ _ (λ _. with-cursor s h _ 0 0 (omega arith) (omega arith)) (
-      pick 9 _ _ (glyph-in-range s h d) (
-      pick 11 _ _ (cursor-in-range s h d) (
-      pick 12 _ _ (style-in-range s h d) (
-      pick 13 _ _ (contrast-in-range s h d) (
-      pick 14 _ _ (backlight-in-range s h d) (
-      pick 23 _ _ (masks-in-range s h d) (
-      pick 31 _ _ (λ _. text-in-range s h d) (
-      pick 34 _ _ (pin-in-range s h d) h))))))))
-    where
-      pick : (c : ℕ) (x y : Settings) → (Sound (lookUp c table) d → settingsInRange x ≡ true) → settingsInRange y ≡ true → settingsInRange (when code =? c then x else y) ≡ true
-      pick c x y f g = when-either (λ (x : Settings). settingsInRange x ≡ true) (code =? c) x y (λ e. f (allowed code d v c e)) (λ _. g)
+      live-rows code d (λ (x : Settings). settingsInRange x ≡ true) s
+      (λ _. with-cursor s h _ 0 0 (omega arith) (omega arith))
+      (λ e. glyph-in-range s h d (allowed code d v 9 e))
+      (λ e. cursor-in-range s h d (allowed code d v 11 e))
+      (λ e. style-in-range s h d (allowed code d v 12 e))
+      (λ e. contrast-in-range s h d (allowed code d v 13 e))
+      (λ e. backlight-in-range s h d (allowed code d v 14 e))
+      (λ e. masks-in-range s h d (allowed code d v 23 e))
+      (λ _. text-in-range s h d)
+      (λ e. pin-in-range s h d (allowed code d v 34 e))
+      h
 
   pub effect-in-range : (b : Body) → BodyInRange b → BodyInRange (effect code d b)
-  unfolding effect
   effect-in-range b h =
-      pick 2 record { live = h .live; boot = h .boot; keys = h .keys } (
-      pick 4 record { live = h .live; boot = h .live; keys = h .keys } (
-      pick 5 record { live = h .boot; boot = h .boot; keys = polled-in-range (b .keys) (h .keys) } (
-      pick 24 record { live = h .live; boot = h .boot; keys = polled-in-range (b .keys) (h .keys) } (
-      pick 35 record { live = h .live; boot = h .boot; keys = h .keys }
-      record { live = live-in-range (b .live) (h .live); boot = h .boot; keys = h .keys }))))
-    where
-      pick : (c : ℕ) {x y : Body} → BodyInRange x → BodyInRange y → BodyInRange (when code =? c then x else y)
-      pick c f g = when-either BodyInRange (code =? c) _ _ (λ _. f) (λ _. g)
+      let polls = polled-in-range (b .keys) (h .keys) in
+      effect-rows code d BodyInRange b
+      record { live = h .live; boot = h .boot; keys = h .keys }
+      record { live = h .live; boot = h .live; keys = h .keys }
+      record { live = h .boot; boot = h .boot; keys = polls }
+      record { live = h .live; boot = h .boot; keys = polls }
+      record { live = h .live; boot = h .boot; keys = h .keys }
+      record { live = live-in-range (b .live) (h .live); boot = h .boot; keys = h .keys }

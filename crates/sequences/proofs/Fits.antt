@@ -6,7 +6,7 @@ use mathlib.Core.List.{List, [], _∷_}
 use native.Mathlib.Omega.{arith}
 use borrow.Author.Tests.{ltb-true}
 use lib.ListN.{length, take, replicate, getD, length-set, length-take}
-use Rattle.lists.specs.Tests.{_=?_, when_then_else_}
+use Rattle.lists.specs.Tests.{_=?_}
 use Rattle.lists.proofs.Laws.{when-either, length-pasted, length-front}
 use Rattle.glyphs.specs.Glyphs.{flatOf}
 use Rattle.glyphs.proofs.Flat.{length-flat}
@@ -30,6 +30,7 @@ use Rattle.command.specs.Step.{stepOf}
 use Rattle.command.specs.Hear.{scannedBy, heardBy}
 use Rattle.command.proofs.Heard.{StepSeen, stray, done, refused, steps}
 use Rattle.events.specs.Pins.{pinMoved, pinEvent}
+use Rattle.sequences.proofs.Rows.{live-rows, effect-rows}
 use Rattle.layout.specs.Settings.{SettingsSized}
 use Rattle.layout.specs.State.{PanelFits}
 
@@ -62,42 +63,28 @@ module _ (s : Settings) (h : SettingsSized s) (d : List ℕ) where
     when-either (λ (l : List ℕ). length l ≡ 5) (length d =? 3) _ _ (λ _. length-set (s .configs) _ _ ∙ h .3) (λ _. h .3),
   )
 
--- Each command's row, in the order of `liveAfter` and of `effect`.
+-- each command's row
 module _ (code : ℕ) (d : List ℕ) where
   live-sized : (s : Settings) → SettingsSized s → SettingsSized (liveAfter code d s)
-  unfolding liveAfter
   live-sized s h =
-      pick 6 _ _ (refl, h .1, h .2, h .3) (
-      pick 9 _ _ (glyph-sized s h d) (
-      pick 11 _ _ h (
-      pick 12 _ _ h (
-      pick 13 _ _ h (
-      pick 14 _ _ h (
-      pick 23 _ _ h (
-      pick 31 _ _ (text-sized s h d) (
-      pick 34 _ _ (pin-sized s h d) h))))))))
-    where
-      pick : (c : ℕ) (x y : Settings) → SettingsSized x → SettingsSized y → SettingsSized (when code =? c then x else y)
-      pick c x y f g = when-either SettingsSized (code =? c) x y (λ _. f) (λ _. g)
+      live-rows code d SettingsSized s (λ _. (refl, h .1, h .2, h .3)) (λ _. glyph-sized s h d) (λ _. h) (λ _. h) (λ _. h) (λ _. h) (λ _. h) (λ _. text-sized s h d) (λ _. pin-sized s h d) h
 
   effect-fits : (b : Body) → BodyFits b → BodyFits (effect code d b)
-  unfolding effect
   effect-fits b h =
-      pick 2 record { live = h .live; boot = h .boot; last = h .last; fell = h .fell; rose = h .rose; flash = length-pasted (b .flash) 0 d ∙ h .flash } (
-      pick 4 record { live = h .live; boot = h .live; last = h .last; fell = h .fell; rose = h .rose; flash = h .flash } (
-      pick 5 record { live = h .boot; boot = h .boot; last = h .last; fell = refl; rose = refl; flash = h .flash } (
-      pick 24 record { live = h .live; boot = h .boot; last = h .last; fell = h .fell; rose = h .rose; flash = h .flash } (
-      pick 35 record {
+      effect-rows code d BodyFits b
+      record { live = h .live; boot = h .boot; last = h .last; fell = h .fell; rose = h .rose; flash = length-pasted (b .flash) 0 d ∙ h .flash }
+      record { live = h .live; boot = h .live; last = h .last; fell = h .fell; rose = h .rose; flash = h .flash }
+      record { live = h .boot; boot = h .boot; last = h .last; fell = refl; rose = refl; flash = h .flash }
+      record { live = h .live; boot = h .boot; last = h .last; fell = h .fell; rose = h .rose; flash = h .flash }
+      record {
         live = h .live;
         boot = h .boot;
         last = h .last;
         fell = length-set (b .pins .fell) _ _ ∙ h .fell;
         rose = length-set (b .pins .rose) _ _ ∙ h .rose;
         flash = h .flash;
-      } record { live = live-sized (b .live) (h .live); boot = h .boot; last = h .last; fell = h .fell; rose = h .rose; flash = h .flash }))))
-    where
-      pick : (c : ℕ) {x y : Body} → BodyFits x → BodyFits y → BodyFits (when code =? c then x else y)
-      pick c f g = when-either BodyFits (code =? c) _ _ (λ _. f) (λ _. g)
+      }
+      record { live = live-sized (b .live) (h .live); boot = h .boot; last = h .last; fell = h .fell; rose = h .rose; flash = h .flash }
 
 step-fits : (b : Body) (p : Packet) → BodyFits b → BodyFits (stepOf b p .body)
 unfolding carried

@@ -1,4 +1,5 @@
 mod Allowed
+mod Rows
 mod Effects
 mod HearCalls
 pub mod Hears

@@ -20,7 +20,7 @@ use Rattle.layout.specs.Faults.{recordsOf}
 use Rattle.naupelys.specs.Calls.{PowerOnBytes}
 use Rattle.panel.specs.Ranges.{inRanges}
 use Rattle.panel.proofs.Theorems.{power-on-in-range}
-use Rattle.sequences.specs.Run.{Call, line, World, Runs}
+use Rattle.sequences.specs.Run.{Call, line, World, Runs, Afresh}
 use Rattle.sequences.specs.Run as run
 use Rattle.sequences.specs.Library.{Kept, Returns, refusals, Library, done, more, recordsLent, StandsFor}
 use Rattle.sequences.proofs.Fits.{power-fits, Small, each-small}
@@ -87,14 +87,18 @@ module _ (font state picture faults : List ℕ) (number : ℕ) (state′ picture
   }
 
   module _ (cs : List Call) (k : Kept) (n : ℕ) (made : Library font cs first k n) where
+    -- what the bytes stand for by then, and that its picture is drawn afresh
+    now : (w : World) × Runs font cs started w n × StandsFor k w
+    now = as-the-panel made started started-stands
+
+    afresh : Afresh font (now .0)
+    afresh = panel.drawn-afresh font picture picture′ (powerSaid picture font) (recordsLent faults) cs (now .0) n powered below (now .1)
+
     -- After an accepted power-on and any sequence of the library's calls, refused ones among them, each lent a list and a reply
     -- buffer of any size and content but the same font, and the state, picture and register as the last call left them, the state
     -- can be read, and the picture is the one drawn afresh from it.
     pub drawn-afresh : (readable (k .state) ≡ true) × (k .picture ≡ drawn (shownBy (panelOf (k .state) .body .live)) font)
-    drawn-afresh =
-        let b = as-the-panel made started started-stands in
-        let f = panel.drawn-afresh font picture picture′ (powerSaid picture font) (recordsLent faults) cs (b .0) n powered below (b .1) in
-        (is-read (b .2), b .2 .picture ∙ f ∙ ap (λ (p : Panel). drawn (shownBy (p .body .live)) font) (sym (same-panel (b .2))))
+    drawn-afresh = (is-read (now .2), now .2 .picture ∙ afresh ∙ ap (λ (p : Panel). drawn (shownBy (p .body .live)) font) (sym (same-panel (now .2))))
 
     -- That state is in its ranges, so that no call is refused for it.
     pub in-range : inRanges (panelOf (k .state)) ≡ true
@@ -104,9 +108,7 @@ module _ (font state picture faults : List ℕ) (number : ℕ) (state′ picture
     -- equal the packets refused: the calls that returned 4.
     pub counts-add-up : counts (recordsLent faults) ≡ 0 → n < 4294967296 → counts (recordsLent (k .faults)) + panelOf (k .state) .unfiled ≡ n
     counts-add-up e h =
-        let b = as-the-panel made started started-stands in
-        let f = panel.counts-add-up font picture picture′ (powerSaid picture font) (recordsLent faults) cs (b .0) n powered e (b .1) h in
-        rw (← (b .2 .register), same-panel (b .2)) f
+        rw (← (now .2 .register), same-panel (now .2)) (panel.counts-add-up font picture picture′ (powerSaid picture font) (recordsLent faults) cs (now .0) n powered e (now .1) h)
 
     -- The same bytes of a line, cut into line calls in any two ways from then on and repeated until all is taken and the number is 1,
     -- with the same key and pin calls after the same packets, come to the same answers and replies, the same state, the same picture
@@ -114,16 +116,13 @@ module _ (font state picture faults : List ℕ) (number : ℕ) (state′ picture
     pub cut-anywhere : {bytes : List ℕ} {notes notes′ : List Note} {l l′ : Kept} → Cut font k bytes notes l → Cut font k bytes notes′ l′ → placesIn 0 notes ≡ placesIn 0 notes′
         → (notes ≡ notes′) × (l .state ≡ l′ .state) × (l .picture ≡ l′ .picture) × (recordsLent (l .faults) ≡ recordsLent (l′ .faults))
     cut-anywhere c c′ e =
-        let b = as-the-panel made started started-stands in
-        let s = b .2 in
-        let x = as-a-story c (b .0) s in
-        let y = as-a-story c′ (b .0) s in
-        let h : inRanges (b .0 .panel) ≡ true = ap inRanges (sym (same-panel s)) ∙ in-range in
-        let n : length (b .0 .panel .hold .bytes) ≤ 25 = omega (arith, s .fits .0) in
+        let x = as-a-story c (now .0) (now .2) in
+        let y = as-a-story c′ (now .0) (now .2) in
+        let h : inRanges (now .0 .panel) ≡ true = ap inRanges (sym (same-panel (now .2))) ∙ in-range in
+        let n : length (now .0 .panel .hold .bytes) ≤ 25 = omega (arith, now .2 .fits .0) in
         let p : places 0 (x .0) ≡ places 0 (y .0) = sym (same-places 0 (x .0)) ∙ ap (placesIn 0) (x .4) ∙ e ∙ sym (ap (placesIn 0) (y .4)) ∙ same-places 0 (y .0) in
         let q = panel.cut-anywhere h n (x .2) (y .2) p in
-        let f = panel.drawn-afresh font picture picture′ (powerSaid picture font) (recordsLent faults) cs (b .0) _ powered below (b .1) in
-        let g = panel.cut-anywhere-paints-alike h n f (x .2) (y .2) p in (
+        let g = panel.cut-anywhere-paints-alike h n afresh (x .2) (y .2) p in (
           sym (x .4) ∙ ap (map noteOf) (q .0) ∙ y .4,
           x .3 .state ∙ ap bytesOf (q .1) ∙ sym (y .3 .state),
           x .3 .picture ∙ g ∙ sym (y .3 .picture),
@@ -137,21 +136,21 @@ module _ (font state picture faults : List ℕ) (number : ℕ) (state′ picture
 
       -- if it is not refused by number, the list is rising, so that each cell stands in it once,
       pub list-rises : number′ < 10 → (i j : ℕ) → i < j → j < count → getD (m .0) i 0 < getD (m .0) j 0
-      list-rises = rises font (as-the-panel made started started-stands .2) piece list reply l number′ m
+      list-rises = rises font (now .2) piece list reply l number′ m
 
       -- it holds exactly the cells whose drawing from the state before and from the state after differ,
       pub list-is-the-change : number′ < 10 → (cell : ℕ) → cell < 80
           → ListedIn (m .0) count cell ↔ (cellDrawn (shownBy (panelOf (k .state) .body .live)) font cell ≢ cellDrawn (shownBy (panelOf (l .state) .body .live)) font cell)
-      list-is-the-change = exactly font (as-the-panel made started started-stands .2) piece list reply l number′ m
+      list-is-the-change = exactly font (now .2) piece list reply l number′ m
 
       -- and bytes of cells that are not listed are as they came.
       pub no-other-byte : number′ < 10 → (cell j : ℕ) → cell < 80 → j < 8 → (ListedIn (m .0) count cell → ⊥)
           → getD (l .picture) (placeOf cell j) 0 ≡ getD (k .picture) (placeOf cell j) 0
-      no-other-byte = unlisted-stay font (as-the-panel made started started-stands .2) piece list reply l number′ m
+      no-other-byte = unlisted-stay font (now .2) piece list reply l number′ m
 
       -- A refused packet changes of the state only the held bytes and the unfiled number; nothing is listed or painted.
       pub refused-changes-only : number′ ≡ 4 → (panelOf (l .state) .body ≡ panelOf (k .state) .body) × (l .picture ≡ k .picture) × (m .0 ≡ list)
-      refused-changes-only = refused-leaves font (as-the-panel made started started-stands .2) piece list reply l number′ m
+      refused-changes-only = refused-leaves font (now .2) piece list reply l number′ m
 
       -- Waiting and a stray change the held bytes only.
       pub waiting-or-stray-changes-only : number′ ≤ 2
@@ -159,4 +158,4 @@ module _ (font state picture faults : List ℕ) (number : ℕ) (state′ picture
           × (panelOf (l .state) .unfiled ≡ panelOf (k .state) .unfiled)
           × (m .1 ≡ reply)
           × (l .faults ≡ k .faults)
-      waiting-or-stray-changes-only = quiet-leaves font (as-the-panel made started started-stands .2) piece list reply l number′ m
+      waiting-or-stray-changes-only = quiet-leaves font (now .2) piece list reply l number′ m

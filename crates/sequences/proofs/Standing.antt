@@ -24,7 +24,7 @@ use Rattle.events.proofs.KeyCalls.{key-by-number}
 use Rattle.paint.specs.Draw.{cellDrawn, shownBy, placeOf}
 use Rattle.paint.specs.Repaint.{ListedIn}
 use Rattle.picture.specs.Calls.{lineChecks, Lent, lent, lineSaid, linePicture, lineList, lineReply, heard, altered, withListed}
-use Rattle.whole.specs.Whole.{filesAfter}
+use Rattle.whole.specs.Whole.{filesAfter, LineCall}
 use Rattle.layout.specs.State.{bytesOf, panelOf, readable, PanelFits}
 use Rattle.layout.specs.Faults.{recordsOf, registerBytes, registerOf, faultsWith}
 use Rattle.layout.specs.Says.{numberOf}
@@ -180,8 +180,15 @@ module _ (font : List ℕ) {k : Kept} {w : World} (s : StandsFor k w) where
     abbrev pub files : Files
     files = filesAfter t (w .register)
 
+    -- what the panel's own call says, its refusal filed, and that it is that call
+    abbrev pub filed : Said
+    filed = withUnfiled t (files .unfiled)
+
     abbrev pub after : World
-    after = record { panel = withUnfiled t (files .unfiled) .panel; picture = linePicture p o; register = files .register }
+    after = record { panel = filed .panel; picture = linePicture p o; register = files .register }
+
+    pub called : LineCall p o (w .register) filed (linePicture p o) (lineList p o) (lineReply p o) (files .register)
+    called = (refl, refl, refl, refl, refl)
 
     pub records : length (w .register) ≡ recordsIn (length (k .faults))
     records = ap length (s .register) ∙ lent-records (k .faults)
@@ -203,7 +210,7 @@ module _ (font : List ℕ) {k : Kept} {w : World} (s : StandsFor k w) where
 
     refused-stands : 10 ≤ numberOf t → StandsFor l after
     refused-stands h =
-        let u = refused-call-changes-nothing p o (w .register) (withUnfiled t (files .unfiled)) _ _ _ _ (refl, refl, refl, refl, refl) h in
+        let u = refused-call-changes-nothing p o (w .register) filed _ _ _ _ called h in
         let same : after .panel ≡ p = ap (λ (x : Said). x .panel) (u .0) in
         record {
           state = state-is ∙ state-kept (k .state) (lineFiled p o (k .faults)) h ∙ s .state ∙ ap bytesOf (sym same);
@@ -215,7 +222,7 @@ module _ (font : List ℕ) {k : Kept} {w : World} (s : StandsFor k w) where
 
     module _ (h : numberOf t < 10) where
       is-64 : length (w .register) ≡ 64
-      is-64 = eqb-true _ _ (passed p o (w .register) (withUnfiled t (files .unfiled)) _ _ _ _ (refl, refl, refl, refl, refl) h .1 .1 .1 .1 .1 .1 .0)
+      is-64 = eqb-true _ _ (passed p o (w .register) filed _ _ _ _ called h .1 .1 .1 .1 .1 .1 .0)
 
       is-448 : length (k .faults) ≡ 448
       is-448 = sized (k .faults) (sym records ∙ is-64)
@@ -225,7 +232,7 @@ module _ (font : List ℕ) {k : Kept} {w : World} (s : StandsFor k w) where
 
       said-fits : PanelFits (t .panel)
       said-fits =
-          subst (λ (x : Said). PanelFits (x .panel)) (sym (said-accepted p o (w .register) (withUnfiled t (files .unfiled)) _ _ _ _ (refl, refl, refl, refl, refl) h))
+          subst (λ (x : Said). PanelFits (x .panel)) (sym (said-accepted p o (w .register) filed _ _ _ _ called h))
           (heard-fits p piece reply (s .fits))
 
       files-fit : Every Small (files .register) × (files .unfiled < 4294967296)
@@ -255,7 +262,7 @@ module _ (font : List ℕ) {k : Kept} {w : World} (s : StandsFor k w) where
 
     line-step : (v : World) × Makes font (line piece list reply) w v (refusals n) × StandsFor l v
     unfolding refusedIn refusals
-    line-step = (after, (withUnfiled t (files .unfiled), lineList p o, lineReply p o, (refl, refl, refl, refl, refl), refl, ap refusals number-is), stands)
+    line-step = (after, (filed, lineList p o, lineReply p o, called, refl, ap refusals number-is), stands)
 
     -- what the call lists, by the count in its 16 bytes
     abbrev listed : ℕ
@@ -278,18 +285,18 @@ module _ (font : List ℕ) {k : Kept} {w : World} (s : StandsFor k w) where
       pub rises : (i j : ℕ) → i < j → j < listed → getD (m .0) i 0 < getD (m .0) j 0
       rises i j h g =
           rw list-is
-          (calls.list-rises p o (w .register) (withUnfiled t (files .unfiled)) _ _ _ _ (refl, refl, refl, refl, refl) said-below i j h (rw listed-is at g))
+          (calls.list-rises p o (w .register) filed _ _ _ _ called said-below i j h (rw listed-is at g))
 
       pub exactly : (cell : ℕ) → cell < 80
           → ListedIn (m .0) listed cell ↔ (cellDrawn (shownBy (panelOf (k .state) .body .live)) font cell ≢ cellDrawn (shownBy (panelOf (l .state) .body .live)) font cell)
       exactly cell h =
           rw (list-is, listed-is, same-panel s, same-panel stands)
-          (calls.list-is-the-change p o (w .register) (withUnfiled t (files .unfiled)) _ _ _ _ (refl, refl, refl, refl, refl) said-below cell h)
+          (calls.list-is-the-change p o (w .register) filed _ _ _ _ called said-below cell h)
 
       pub unlisted-stay : (cell j : ℕ) → cell < 80 → j < 8 → (ListedIn (m .0) listed cell → ⊥) → getD (l .picture) (placeOf cell j) 0 ≡ getD (k .picture) (placeOf cell j) 0
       unlisted-stay cell j h g none =
           rw (picture-is, s .picture)
-          (calls.no-other-byte p o (w .register) (withUnfiled t (files .unfiled)) _ _ _ _ (refl, refl, refl, refl, refl) said-below cell j h g (rw (list-is, listed-is) at none))
+          (calls.no-other-byte p o (w .register) filed _ _ _ _ called said-below cell j h g (rw (list-is, listed-is) at none))
 
     -- what a refused packet leaves, and what waiting or a stray does
     abbrev pub BodyStays : Type 0
@@ -297,14 +304,14 @@ module _ (font : List ℕ) {k : Kept} {w : World} (s : StandsFor k w) where
 
     pub refused-leaves : n ≡ 4 → BodyStays
     refused-leaves e =
-        let c = calls.refused-changes-only p o (w .register) (withUnfiled t (files .unfiled)) _ _ _ _ (refl, refl, refl, refl, refl) (sym number-is ∙ e) in
+        let c = calls.refused-changes-only p o (w .register) filed _ _ _ _ called (sym number-is ∙ e) in
         (ap (λ (q : Panel). q .body) (same-panel stands) ∙ c .0 ∙ sym (ap (λ (q : Panel). q .body) (same-panel s)), picture-is ∙ c .2 ∙ sym (s .picture), list-is ∙ c .3)
 
     pub quiet-leaves : n ≤ 2 → BodyStays × (panelOf (l .state) .unfiled ≡ panelOf (k .state) .unfiled) × (m .1 ≡ reply) × (l .faults ≡ k .faults)
     unfolding faultsAfter
     quiet-leaves h =
         let a : numberOf t ≤ 2 = rw number-is at h in
-        let c = calls.waiting-or-stray-changes-only p o (w .register) (withUnfiled t (files .unfiled)) _ _ _ _ (refl, refl, refl, refl, refl) a in (
+        let c = calls.waiting-or-stray-changes-only p o (w .register) filed _ _ _ _ called a in (
           (ap (λ (q : Panel). q .body) (same-panel stands) ∙ c .0 .0 ∙ sym (ap (λ (q : Panel). q .body) (same-panel s)), picture-is ∙ c .0 .2 ∙ sym (s .picture), list-is ∙ c .0 .3),
           ap (λ (q : Panel). q .unfiled) (same-panel stands) ∙ c .1 .0 ∙ sym (ap (λ (q : Panel). q .unfiled) (same-panel s)),
           m .3 .4 ∙ on-call reply (λ (q : Panel) (x : Lent). lineReply q x) ∙ c .1 .1,

@@ -6,11 +6,9 @@ use mathlib.Core.Bool.{Bool}
 use mathlib.Core.List.{List, [], _∷_, _++_}
 use lib.ListN.{length, take, drop, getD}
 use Rattle.lists.specs.Tests.{when_then_else_, _=?_}
-use Rattle.picture.specs.Calls.{lent}
-use Rattle.linecall.specs.Line.{recordsIn, LineBytes}
 use Rattle.naupelys.specs.Calls.{KeyBytes, PinBytes}
 use Rattle.sequences.specs.Story.{Other, key, pin, Place, after}
-use Rattle.sequences.specs.Library.{Kept}
+use Rattle.sequences.specs.Library.{Kept, LineOn}
 
 -- what a call says, read from its 16 bytes: number, command, reason and place; how many bytes it took; and the bytes replied
 abbrev pub answerIn : List ℕ → List ℕ
@@ -37,7 +35,7 @@ pub record HearsBytes (font : List ℕ) (k : Kept) (piece out said out′ : List
   pub list : List ℕ
   pub list′ : List ℕ
   pub number : ℕ
-  pub called : LineBytes (k .state) (lent piece (k .picture) font list out (recordsIn (length (k .faults)))) (k .faults) number (l .state) (l .picture) list′ out′ (l .faults) said
+  pub called : LineOn font k piece list out number l list′ out′ said
   pub accepted : number < 10
 
 -- AnswersBytes c k out said out′ l: another call takes the bytes k to l; a pin call is lent no reply buffer

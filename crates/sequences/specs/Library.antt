@@ -20,11 +20,15 @@ pub record Kept : Type 0 where
   pub picture : List ℕ
   pub faults : List ℕ
 
+-- a line call on those bytes: it returns n and leaves the bytes l, the list, the reply buffer and what it says as given last
+abbrev pub LineOn : List ℕ → Kept → (piece list reply : List ℕ) → ℕ → Kept → (list′ reply′ said′ : List ℕ) → Type 0
+LineOn font k piece list reply n l list′ reply′ said′ =
+    LineBytes (k .state) (lent piece (k .picture) font list reply (recordsIn (length (k .faults)))) (k .faults) n (l .state) (l .picture) list′ reply′ (l .faults) said′
+
 -- Returns font c k l n: the call c, which returns n, may take the bytes k to l: its promise allows it
 abbrev pub Returns : List ℕ → Call → Kept → Kept → ℕ → Type 0
 Returns font (line piece list reply) k l n =
-    (list′ : List ℕ) × (reply′ : List ℕ) × (said′ : List ℕ)
-    × LineBytes (k .state) (lent piece (k .picture) font list reply (recordsIn (length (k .faults)))) (k .faults) n (l .state) (l .picture) list′ reply′ (l .faults) said′
+    (list′ : List ℕ) × (reply′ : List ℕ) × (said′ : List ℕ) × LineOn font k piece list reply n l list′ reply′ said′
 Returns font (key number down reply) k l n =
     (reply′ : List ℕ) × (said′ : List ℕ) × KeyBytes (k .state) number down reply n (l .state) reply′ said′
     × (l .picture ≡ k .picture)
