@@ -1,8 +1,13 @@
 //! The benchmark: the library against the reading, on the same bytes in one run. Prints a table for docs/BENCH.md.
+//!
+//! For counting instructions: `bench host` writes the host traffic, `bench packets` prints how many packets it has,
+//! `bench library` gives it to the library once, and `bench nothing` does all of that but the calls.
 
 #[allow(dead_code)]
 #[path = "../outside/reading.rs"]
 mod reading;
+
+use std::io::Write;
 
 use reading::{checksum, Settings, CELLS, FONT, LIST, PICTURE, PIECE_MOST, REGISTER, REPLY, SAID, STATE};
 
@@ -294,14 +299,29 @@ fn with_commas(value: usize) -> String {
 
 fn main() {
     let host = host_traffic();
+    match std::env::args().nth(1).as_deref() {
+        None => table(&host),
+        Some("host") => std::io::stdout().write_all(&host).expect("standard output can be written"),
+        // Every piece ends with one call that waits.
+        Some("packets") => {
+            let calls = drive(by_reading, &mut Desk::at_power_on(), &host, PIECE_MOST);
+            println!("{}", calls - host.chunks(PIECE_MOST).len() as u64);
+        }
+        Some("library") => assert!(drive(by_library, &mut Desk::at_power_on(), &host, PIECE_MOST) > 0),
+        Some("nothing") => assert!(drive(|_, _| reading::WAITING, &mut Desk::at_power_on(), &host, PIECE_MOST) > 0),
+        Some(word) => panic!("{word}: host, packets, library or nothing"),
+    }
+}
+
+fn table(host: &[u8]) {
     let noise = noise(16 * PIECE_MOST);
     let run = vec![0x16; 2 * PIECE_MOST];
     let all: &[Contestant] = &[by_library, by_reading, by_draw_all];
     let rows: [(&str, &[u8], usize, &[Contestant]); 8] = [
-        ("host traffic", &host, 1, all),
-        ("host traffic", &host, 2, all),
-        ("host traffic", &host, 16, all),
-        ("host traffic", &host, PIECE_MOST, all),
+        ("host traffic", host, 1, all),
+        ("host traffic", host, 2, all),
+        ("host traffic", host, 16, all),
+        ("host traffic", host, PIECE_MOST, all),
         ("noise", &noise, 16, &all[..2]),
         ("noise", &noise, PIECE_MOST, &all[..2]),
         ("run of 0x16", &run, 16, &all[..2]),

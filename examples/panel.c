@@ -1,4 +1,4 @@
-/* A session with the panel: power-on, a ping, a text write, a contrast that is out of range, and a key.
+/* A session with the panel: power-on, a ping, a text write, a contrast that is out of range, a key and a pin.
  *
  * Beside each call stands what document 01 says of it; panel.expected holds those lines, worked out by hand. */
 #include "naupelys.h"
@@ -13,18 +13,29 @@ static uint8_t reply[NAUPELYS_REPLY];
 static uint8_t faults[NAUPELYS_REGISTER];
 static uint8_t said[NAUPELYS_SAID];
 
+/* Two bytes, and four, with their little end first. */
+static unsigned two(const uint8_t *bytes)
+{
+    return bytes[0] + 256u * bytes[1];
+}
+
+static unsigned long four(const uint8_t *bytes)
+{
+    return two(bytes) + 65536ul * two(bytes + 2);
+}
+
 /* The number returned, the command, reason and place, the bytes taken, dropped and run through the checksum, the reply's
  * length and its bytes, and how many cells were listed and which. */
 static void show(const char *name, uint8_t number)
 {
-    printf("%s: %u command %u reason %u place %u taken %u dropped %u checked %lu reply", name, number, said[1], said[2], said[3],
-           said[4] + 256u * said[5], said[6] + 256u * said[7],
-           said[8] + 256ul * said[9] + 65536ul * said[10] + 16777216ul * said[11]);
-    for (int i = 0; i < said[12]; i++) {
+    printf("%s: %u command %u reason %u place %u taken %u dropped %u checked %lu reply", name, number,
+           said[NAUPELYS_SAID_COMMAND], said[NAUPELYS_SAID_REASON], said[NAUPELYS_SAID_PLACE],
+           two(said + NAUPELYS_SAID_TAKEN), two(said + NAUPELYS_SAID_DROPPED), four(said + NAUPELYS_SAID_CHECKED));
+    for (int i = 0; i < said[NAUPELYS_SAID_REPLY]; i++) {
         printf(" %02X", reply[i]);
     }
     printf(" cells");
-    for (int i = 0; i < said[13]; i++) {
+    for (int i = 0; i < said[NAUPELYS_SAID_CELLS]; i++) {
         printf(" %u", list[i]);
     }
     printf("\n");
@@ -73,14 +84,27 @@ int main(void)
     static const uint8_t contrast[] = {0x0D, 0x01, 0xFF, 0x13, 0x2F};
     send("contrast 255", contrast, sizeof contrast);
 
-    /* The refusal stands in the first record: command 13, reason 3, place 2, a count of 1. */
-    printf("first record: command %u reason %u place %u count %lu\n", faults[0], faults[1], faults[2],
-           faults[3] + 256ul * faults[4] + 65536ul * faults[5] + 16777216ul * faults[6]);
+    /* The refusal stands in the first record: command 13, reason 3, place 2, a count of 1. The contrast is still the factory's. */
+    printf("first record: command %u reason %u place %u count %lu\n", faults[NAUPELYS_RECORD_COMMAND],
+           faults[NAUPELYS_RECORD_REASON], faults[NAUPELYS_RECORD_PLACE], four(faults + NAUPELYS_RECORD_COUNT));
+    printf("contrast: %u\n", state[NAUPELYS_STATE_LIVE + NAUPELYS_SETTINGS_CONTRAST]);
 
     /* Enter is key 1. All keys are reported at power-on, so a report of type 128 and length 1 is due: 5 for enter pressed. */
     show("enter", naupelys_key(state, sizeof state, 1, true, reply, sizeof reply, said));
 
     /* Told again that it is down: 18, and nothing changes. */
     show("enter again", naupelys_key(state, sizeof state, 1, true, reply, sizeof reply, said));
+
+    /* There are keys 0 to 5: 256 is none of them. */
+    show("key 256", naupelys_key(state, sizeof state, 256, true, reply, sizeof reply, said));
+
+    /* Enter's bit is 1, so that down and pressed are 2 and released is 0. */
+    printf("keys: down %u pressed %u released %u\n", state[NAUPELYS_STATE_KEYS_DOWN], state[NAUPELYS_STATE_KEYS_PRESSED],
+           state[NAUPELYS_STATE_KEYS_RELEASED]);
+
+    /* Pin 3 was low at power-on and is high now: its bit, 8, is in the last levels and in those that rose. */
+    show("pin 3", naupelys_pin(state, sizeof state, 3, true, said));
+    printf("pins: last %u fell %u rose %u\n", state[NAUPELYS_STATE_PINS_LAST], state[NAUPELYS_STATE_PINS_FELL],
+           state[NAUPELYS_STATE_PINS_ROSE]);
     return 0;
 }

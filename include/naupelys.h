@@ -16,7 +16,7 @@
  *    2  a stray packet: not a command        line
  *    3  done                                 all
  *    4  a packet refused                     line
- *   10  state out of its ranges              all   (also: not 402 bytes, or an edge or level byte above 1)
+ *   10  state out of its ranges              all   (also: not 390 bytes)
  *   11  piece above 4,096 bytes              line
  *   12  picture not 640 bytes                line, power-on
  *   13  font not 2,048 bytes                 line, power-on
@@ -38,18 +38,17 @@
  *   13      how many cells stand at the front of the change list
  *   14-15   0
  *
- * The state, 402 bytes:
+ * The state, 390 bytes, the line's part first. Any 390 bytes are a state; those whose values the commands and events can set are
+ * in their ranges:
  *
  *      0        how many bytes of the line are held, 0 to 25
  *      1-25     the held bytes, oldest first; those behind the count mean nothing (power-on and an accepted line call leave zeros)
- *     26-194    the live settings
- *    195-363    the boot state
- *    364-366    keys down, pressed and released since the last poll: bit 0 up, 1 enter, 2 cancel, 3 left, 4 right, 5 down
- *    367-371    last level of pins 0 to 4, 0 or 1 each
- *    372-376    whether each fell since it was last read, 0 or 1
- *    377-381    whether each rose since it was last read, 0 or 1
- *    382-397    user flash
- *    398-401    refusals that no record of the register holds, little end first
+ *     26-29     refusals that no record of the register holds, little end first
+ *     30-198    the live settings
+ *    199-367    the boot state
+ *    368-370    keys down, pressed and released since the last poll: bit 0 up, 1 enter, 2 cancel, 3 left, 4 right, 5 down; 0 to 63
+ *    371-373    pins: last level, fell and rose since last read; bit number = pin number, pins 0 to 4; 0 to 31
+ *    374-389    user flash
  *
  * Settings, 169 bytes:
  *
@@ -77,8 +76,12 @@
 extern "C" {
 #endif
 
+/* The number of the layouts above: another one where a byte of them has another place or meaning. */
+enum { NAUPELYS_LAYOUT = 2 };
+
+/* Sizes. */
 enum {
-    NAUPELYS_STATE = 402,
+    NAUPELYS_STATE = 390,
     NAUPELYS_PIECE_MOST = 4096,
     NAUPELYS_PICTURE = 640,
     NAUPELYS_FONT = 2048,
@@ -88,6 +91,62 @@ enum {
     NAUPELYS_SAID = 16
 };
 
+/* Places in the state. */
+enum {
+    NAUPELYS_STATE_HELD_COUNT = 0,
+    NAUPELYS_STATE_HELD = 1,
+    NAUPELYS_STATE_UNFILED = 26,
+    NAUPELYS_STATE_LIVE = 30,
+    NAUPELYS_STATE_BOOT = 199,
+    NAUPELYS_STATE_KEYS_DOWN = 368,
+    NAUPELYS_STATE_KEYS_PRESSED = 369,
+    NAUPELYS_STATE_KEYS_RELEASED = 370,
+    NAUPELYS_STATE_PINS_LAST = 371,
+    NAUPELYS_STATE_PINS_FELL = 372,
+    NAUPELYS_STATE_PINS_ROSE = 373,
+    NAUPELYS_STATE_FLASH = 374
+};
+
+/* Places in settings, to be added to that of the live settings or of the boot state, and their size. */
+enum {
+    NAUPELYS_SETTINGS_TEXT = 0,
+    NAUPELYS_SETTINGS_GLYPHS = 80,
+    NAUPELYS_SETTINGS_COLUMN = 144,
+    NAUPELYS_SETTINGS_ROW = 145,
+    NAUPELYS_SETTINGS_STYLE = 146,
+    NAUPELYS_SETTINGS_CONTRAST = 147,
+    NAUPELYS_SETTINGS_BACKLIGHT = 148,
+    NAUPELYS_SETTINGS_PRESS_MASK = 149,
+    NAUPELYS_SETTINGS_RELEASE_MASK = 150,
+    NAUPELYS_SETTINGS_LEVELS = 151,
+    NAUPELYS_SETTINGS_CONFIGS = 164,
+    NAUPELYS_SETTINGS = 169
+};
+
+/* Places in a record of the register, its size, and how many there are. */
+enum {
+    NAUPELYS_RECORD_COMMAND = 0,
+    NAUPELYS_RECORD_REASON = 1,
+    NAUPELYS_RECORD_PLACE = 2,
+    NAUPELYS_RECORD_COUNT = 3,
+    NAUPELYS_RECORD = 7,
+    NAUPELYS_RECORDS = 64
+};
+
+/* Places in what a call says. */
+enum {
+    NAUPELYS_SAID_NUMBER = 0,
+    NAUPELYS_SAID_COMMAND = 1,
+    NAUPELYS_SAID_REASON = 2,
+    NAUPELYS_SAID_PLACE = 3,
+    NAUPELYS_SAID_TAKEN = 4,
+    NAUPELYS_SAID_DROPPED = 6,
+    NAUPELYS_SAID_CHECKED = 8,
+    NAUPELYS_SAID_REPLY = 12,
+    NAUPELYS_SAID_CELLS = 13
+};
+
+/* The number that a call returns. */
 enum {
     NAUPELYS_WAITING = 1,
     NAUPELYS_STRAY = 2,
@@ -126,13 +185,13 @@ uint8_t naupelys_line(uint8_t *state, size_t state_size,
 
 /* A key goes down or up: 0 up, 1 enter, 2 cancel, 3 left, 4 right, 5 down. A report that is due stands in the reply buffer. */
 uint8_t naupelys_key(uint8_t *state, size_t state_size,
-                     uint8_t key, bool down,
+                     uint32_t key, bool down,
                      uint8_t *reply, size_t reply_size,
                      uint8_t *said);
 
 /* The level at a pin, 0 to 4. */
 uint8_t naupelys_pin(uint8_t *state, size_t state_size,
-                     uint8_t pin, bool high,
+                     uint32_t pin, bool high,
                      uint8_t *said);
 
 #ifdef __cplusplus

@@ -5,12 +5,16 @@
 #[allow(dead_code)]
 #[path = "reading.rs"]
 mod reading;
+#[allow(dead_code)]
+#[path = "traffic.rs"]
+mod traffic;
 
 use reading::{checksum, FONT, LIST, PICTURE, PIECE_MOST, REGISTER, REPLY, SAID, STATE};
-use std::collections::BTreeMap;
+use std::collections::{BTreeMap, BTreeSet};
 use std::io::Write;
 use std::process::exit;
 use std::time::{Instant, SystemTime, UNIX_EPOCH};
+use traffic::{any_packet, code, honest_data, packet, traffic, Rng, COMMANDS};
 
 const FIXED_SEED: u64 = 635;
 const SEQUENCES: u64 = 24_000;
@@ -47,106 +51,13 @@ mod library {
         pub fn naupelys_key(
             state: *mut u8,
             state_size: usize,
-            key: u8,
+            key: u32,
             down: bool,
             reply: *mut u8,
             reply_size: usize,
             said: *mut u8,
         ) -> u8;
-        pub fn naupelys_pin(state: *mut u8, state_size: usize, pin: u8, high: bool, said: *mut u8) -> u8;
-    }
-}
-
-// ---------------------------------------------------------------------------------------------------------------------------
-// Random numbers
-// ---------------------------------------------------------------------------------------------------------------------------
-
-/// Splitmix64.
-struct Rng(u64);
-
-impl Rng {
-    /// Each sequence has its own run of numbers, so that it can be repeated alone.
-    fn for_sequence(seed: u64, sequence: u64) -> Rng {
-        let mut rng = Rng(seed ^ sequence.wrapping_mul(0xD1B5_4A32_D192_ED03));
-        rng.next();
-        rng
-    }
-
-    fn next(&mut self) -> u64 {
-        self.0 = self.0.wrapping_add(0x9E37_79B9_7F4A_7C15);
-        let mut z = self.0;
-        z = (z ^ (z >> 30)).wrapping_mul(0xBF58_476D_1CE4_E5B9);
-        z = (z ^ (z >> 27)).wrapping_mul(0x94D0_49BB_1331_11EB);
-        z ^ (z >> 31)
-    }
-
-    /// 0 to n - 1.
-    fn below(&mut self, n: usize) -> usize {
-        (((self.next() >> 32) * n as u64) >> 32) as usize
-    }
-
-    /// low to high, both too.
-    fn between(&mut self, low: usize, high: usize) -> usize {
-        low + self.below(high - low + 1)
-    }
-
-    fn one_in(&mut self, n: usize) -> bool {
-        self.below(n) == 0
-    }
-
-    fn flag(&mut self) -> bool {
-        self.one_in(2)
-    }
-
-    fn byte(&mut self) -> u8 {
-        self.next() as u8
-    }
-
-    fn fill(&mut self, bytes: &mut [u8]) {
-        for chunk in bytes.chunks_mut(8) {
-            let word = self.next().to_le_bytes();
-            chunk.copy_from_slice(&word[..chunk.len()]);
-        }
-    }
-
-    fn bytes(&mut self, n: usize) -> Vec<u8> {
-        let mut bytes = vec![0; n];
-        self.fill(&mut bytes);
-        bytes
-    }
-
-    fn pick<T: Copy>(&mut self, from: &[T]) -> T {
-        from[self.below(from.len())]
-    }
-
-    /// 0 to most, its ends more often.
-    fn up_to(&mut self, most: u8) -> u8 {
-        match self.below(6) {
-            0 => 0,
-            1 => most,
-            2 => most.saturating_sub(1),
-            _ => self.below(usize::from(most) + 1) as u8,
-        }
-    }
-
-    /// most + 1 to 255, its ends more often.
-    fn above(&mut self, most: u8) -> u8 {
-        match self.below(4) {
-            0 | 1 => most + 1,
-            2 => 255,
-            _ => self.between(usize::from(most) + 1, 255) as u8,
-        }
-    }
-
-    /// A 32-bit count, with those where a byte carries and those at the end.
-    fn count(&mut self) -> u32 {
-        match self.below(8) {
-            0 | 1 => u32::MAX,
-            2 => u32::MAX - 1,
-            3 => self.pick(&[255, 256, 65_535, 65_536, 0x00FF_FFFF, 0x0100_0000, 0x7FFF_FFFF, 0x8000_0000]),
-            4 => self.next() as u32,
-            _ => 1 + self.below(5) as u32,
-        }
+        pub fn naupelys_pin(state: *mut u8, state_size: usize, pin: u32, high: bool, said: *mut u8) -> u8;
     }
 }
 
@@ -250,8 +161,8 @@ struct Said {
 enum Call {
     PowerOn,
     Line,
-    Key(u8, bool),
-    Pin(u8, bool),
+    Key(u32, bool),
+    Pin(u32, bool),
 }
 
 // ---------------------------------------------------------------------------------------------------------------------------
@@ -397,18 +308,31 @@ fn print_difference(name: &str, ours: &Buffer, theirs: &Buffer) {
     );
 }
 
+/// Where the parts stand in the state, and how long settings are.
+const HELD: usize = 1;
+const UNFILED: usize = 26;
+const LIVE: usize = 30;
+const BOOT: usize = 199;
+const KEYS: usize = 368;
+const PINS: usize = 371;
+const FLASH: usize = 374;
+const SETTINGS: usize = 169;
+
+/// Where text and glyphs stand in settings, and where the glyphs end.
+const TEXT: usize = 0;
+const GLYPHS: usize = 80;
+const GLYPHS_END: usize = 144;
+
 fn field_of_state(offset: usize) -> &'static str {
     match offset {
         0 => "(held count)",
-        1..=25 => "(held bytes)",
-        26..=194 => "(live settings)",
-        195..=363 => "(boot state)",
-        364..=366 => "(keys)",
-        367..=371 => "(last levels)",
-        372..=376 => "(fell)",
-        377..=381 => "(rose)",
-        382..=397 => "(flash)",
-        398..=401 => "(unfiled)",
+        HELD..UNFILED => "(held bytes)",
+        UNFILED..LIVE => "(unfiled)",
+        LIVE..BOOT => "(live settings)",
+        BOOT..KEYS => "(boot state)",
+        KEYS..PINS => "(keys)",
+        PINS..FLASH => "(pins)",
+        FLASH..STATE => "(flash)",
         _ => "(behind)",
     }
 }
@@ -416,8 +340,6 @@ fn field_of_state(offset: usize) -> &'static str {
 // ---------------------------------------------------------------------------------------------------------------------------
 // What was seen, so that a broken generator cannot pass
 // ---------------------------------------------------------------------------------------------------------------------------
-
-const COMMANDS: [u8; 18] = [0, 1, 2, 3, 4, 5, 6, 9, 10, 11, 12, 13, 14, 23, 24, 31, 34, 35];
 
 struct Seen {
     /// By call, in the order power-on, line, key, pin.
@@ -435,7 +357,7 @@ struct Seen {
 }
 
 /// Further things that have to be seen.
-const OTHER: [&str; 15] = [
+const OTHER: [&str; 23] = [
     "count raised",
     "free record taken",
     "unfiled, no room",
@@ -451,6 +373,14 @@ const OTHER: [&str; 15] = [
     "packet from an empty piece",
     "above 65,535 checked",
     "above 4,000 dropped",
+    "key above 255 refused",
+    "key above 65,535 refused",
+    "pin above 255 refused",
+    "pin above 65,535 refused",
+    "a pin bit of its own in each byte",
+    "last levels above 31",
+    "fell above 31",
+    "rose above 31",
 ];
 
 impl Seen {
@@ -483,6 +413,7 @@ impl Seen {
                 _ => self.reports[usize::from(after.reply.bytes()[2])] += 1,
             }
         }
+        self.note_numbers(call, before, after);
         if !matches!(call, Call::Line) || said.number > reading::REFUSED {
             return;
         }
@@ -507,7 +438,7 @@ impl Seen {
             let any_free = old_register.chunks(7).any(|record| record[3..] == [0; 4]);
             let key = [said.command, said.reason, said.place];
             let full_match = old_register.chunks(7).any(|record| record[..3] == key && record[3..] == [255; 4]);
-            let at_end = old[398..] == [255; 4];
+            let at_end = old[UNFILED..LIVE] == [255; 4];
             other("count raised", record.is_some() && !was_free);
             other("free record taken", was_free);
             other("unfiled, no room", record.is_none() && !any_free && !full_match && !at_end);
@@ -516,15 +447,53 @@ impl Seen {
         }
         other("one cell listed", said.cells == 1);
         other("80 cells listed", said.cells == 80);
-        other("text changed, none listed", said.cells == 0 && old[26..106] != new[26..106]);
-        other("glyph changed, none listed", said.cells == 0 && old[106..170] != new[106..170]);
+        let text = |state: &[u8]| state[LIVE + TEXT..LIVE + GLYPHS].to_vec();
+        let glyphs = |state: &[u8]| state[LIVE + GLYPHS..LIVE + GLYPHS_END].to_vec();
+        let (codes_differ, glyphs_differ) = (text(old) != text(new), glyphs(old) != glyphs(new));
+        other("text changed, none listed", said.cells == 0 && codes_differ);
+        other("glyph changed, none listed", said.cells == 0 && glyphs_differ);
         other("glyph changed, cells listed", said.cells > 0 && command == glyph);
         other("reboot lists cells", said.cells > 0 && command == 5);
-        let both = old[26..106] != new[26..106] && old[106..170] != new[106..170];
-        other("glyphs and codes changed, none listed", said.cells == 0 && both);
+        other("glyphs and codes changed, none listed", said.cells == 0 && codes_differ && glyphs_differ);
         other("packet from an empty piece", said.number > reading::WAITING && said.taken == 0);
         other("above 65,535 checked", said.checked > 65_535);
         other("above 4,000 dropped", said.dropped > 4_000);
+    }
+
+    /// Numbers that are wider than a byte, and pins' bits.
+    fn note_numbers(&mut self, call: Call, before: &Lent, after: &Lent) {
+        let said = after.said();
+        let mut other = |name: &'static str, seen: bool| *self.other.entry(name).or_default() += u64::from(seen);
+        match call {
+            // Only those whose low bytes alone would be a key or a pin.
+            Call::Key(key, _) if said.number == reading::BAD_NUMBER => {
+                other("key above 255 refused", key > 255 && key & 255 <= 5);
+                other("key above 65,535 refused", key > 65_535 && key & 65_535 <= 5);
+            }
+            Call::Pin(pin, _) if said.number == reading::BAD_NUMBER => {
+                other("pin above 255 refused", pin > 255 && pin & 255 <= 4);
+                other("pin above 65,535 refused", pin > 65_535 && pin & 65_535 <= 4);
+            }
+            Call::Pin(..) if said.number == reading::DONE => {
+                let pins = &after.state.bytes()[PINS..FLASH];
+                other(
+                    "a pin bit of its own in each byte",
+                    (0..3).all(|at| pins[at] & !pins[(at + 1) % 3] & !pins[(at + 2) % 3] != 0),
+                );
+            }
+            _ => {}
+        }
+        // Only those that nothing else makes out of range: the same state with the bits away is read.
+        let state = before.state.bytes();
+        if said.number == reading::BAD_STATE && state.len() == STATE && !matches!(call, Call::PowerOn) {
+            for (at, name) in [(PINS, "last levels above 31"), (PINS + 1, "fell above 31"), (PINS + 2, "rose above 31")] {
+                if state[at] > 31 {
+                    let mut without = state.to_vec();
+                    without[at] &= 31;
+                    other(name, reading::pin(&mut without, 0, false, &mut [0; SAID]) == reading::DONE);
+                }
+            }
+        }
     }
 
     /// Prints the counts; gives what was expected and not seen.
@@ -612,234 +581,8 @@ fn possible_keys() -> Vec<[u8; 3]> {
 }
 
 // ---------------------------------------------------------------------------------------------------------------------------
-// Bytes of the line
-// ---------------------------------------------------------------------------------------------------------------------------
-
-fn packet(kind: u8, data: &[u8]) -> Vec<u8> {
-    let mut bytes = vec![kind, data.len() as u8];
-    bytes.extend_from_slice(data);
-    let sum = checksum(&bytes);
-    bytes.extend_from_slice(&sum.to_le_bytes());
-    bytes
-}
-
-/// A code to write: special glyphs often, and 32 and 96, which draw alike in the program's font.
-fn code(rng: &mut Rng) -> u8 {
-    match rng.below(10) {
-        0..=3 => rng.below(8) as u8,
-        4 | 5 => rng.pick(&[32, 96, 160, 224]),
-        6 => rng.pick(&[7, 8, 9, 255, 63, 64, 72]),
-        _ => rng.byte(),
-    }
-}
-
-/// Data that the command allows, at the ends of the ranges more often.
-fn honest_data(rng: &mut Rng, command: u8) -> Vec<u8> {
-    match command {
-        0 => {
-            let n = rng.up_to(22);
-            rng.bytes(usize::from(n))
-        }
-        2 => rng.bytes(16),
-        5 => vec![8, 18, 99],
-        9 => {
-            let mut data = vec![rng.up_to(7)];
-            let kind = rng.below(4);
-            let same = rng.up_to(63);
-            for line in 0..8 {
-                data.push(match kind {
-                    0 => same,
-                    1 => 63 * u8::from(line >= same % 9),
-                    _ => rng.up_to(63),
-                });
-            }
-            data
-        }
-        10 => match rng.flag() {
-            true => vec![64 + rng.up_to(56)],
-            false => vec![128 + 32 * rng.up_to(3) + rng.up_to(12)],
-        },
-        11 => vec![rng.up_to(19), rng.up_to(3)],
-        12 => vec![rng.up_to(4)],
-        13 => vec![rng.up_to(254)],
-        14 => vec![rng.up_to(100)],
-        23 => vec![rng.up_to(63), rng.up_to(63)],
-        31 => {
-            let column = rng.up_to(19);
-            let mut data = vec![column, rng.up_to(3)];
-            let n = 1 + rng.up_to(19 - column);
-            let one = code(rng);
-            let all_one = rng.one_in(4);
-            data.extend((0..n).map(|_| if all_one { one } else { code(rng) }));
-            data
-        }
-        34 => {
-            let mut data = vec![rng.up_to(12), rng.up_to(100)];
-            if data[0] <= 4 && rng.flag() {
-                data.push(rng.pick(&[0, 1, 2, 3, 4, 5, 7, 8, 9, 10, 11, 12, 13, 15]));
-            }
-            data
-        }
-        35 => vec![rng.up_to(12)],
-        _ => Vec::new(),
-    }
-}
-
-/// Data of an allowed length that the command does not allow, if there is any.
-fn wrong_data(rng: &mut Rng, command: u8) -> Vec<u8> {
-    let mut data = honest_data(rng, command);
-    let times = if rng.one_in(4) { 3 } else { 1 };
-    for _ in 0..times {
-        match command {
-            5 => match rng.below(4) {
-                0 => data = vec![12, 28, 97],
-                1 => data = vec![3, 11, 95],
-                _ => {
-                    let index = rng.below(3);
-                    data[index] ^= 1 + rng.below(255) as u8;
-                }
-            },
-            9 => {
-                let index = rng.below(9);
-                data[index] = if index == 0 { rng.above(7) } else { rng.above(63) };
-            }
-            10 => {
-                data[0] = match rng.below(4) {
-                    0 => rng.up_to(63),
-                    1 => rng.between(121, 127) as u8,
-                    2 => 128 + 32 * rng.up_to(3) + 13,
-                    _ => 128 + 32 * rng.up_to(3) + 13 + rng.up_to(18),
-                }
-            }
-            11 | 31 => match rng.below(if command == 31 { 4 } else { 2 }) {
-                0 => data[0] = rng.above(19),
-                1 => data[1] = rng.above(3),
-                _ => {
-                    data[0] = rng.between(1, 19) as u8;
-                    let room = 20 - usize::from(data[0]);
-                    let n = if rng.flag() { room + 1 } else { rng.between(room + 1, 20) };
-                    data.resize(2 + n, code(rng));
-                }
-            },
-            12 => data[0] = rng.above(4),
-            13 => data[0] = 255,
-            14 => data[0] = rng.above(100),
-            23 => {
-                let index = rng.below(2);
-                data[index] = rng.above(63);
-            }
-            34 => match rng.below(5) {
-                0 => data[0] = rng.above(12),
-                1 => data[1] = rng.above(100),
-                2 => {
-                    data.resize(3, 0);
-                    data[0] = rng.between(5, 12) as u8;
-                    data[2] = rng.up_to(15);
-                }
-                _ => {
-                    data.resize(3, 0);
-                    data[0] = rng.up_to(4);
-                    data[2] = if rng.flag() { rng.pick(&[6, 14]) } else { rng.above(15) };
-                }
-            },
-            35 => data[0] = rng.above(12),
-            _ => {}
-        }
-    }
-    data
-}
-
-fn any_packet(rng: &mut Rng) -> Vec<u8> {
-    // Those that change the picture and the boot state come more often.
-    let command = match rng.below(8) {
-        0 => rng.pick(&[4, 5, 6]),
-        1 => 9,
-        2 | 3 => 31,
-        _ => rng.pick(&COMMANDS),
-    };
-    match rng.below(16) {
-        0..=8 => packet(command, &honest_data(rng, command)),
-        9..=11 => packet(command, &wrong_data(rng, command)),
-        12 => {
-            let n = rng.up_to(22);
-            packet(command, &rng.bytes(usize::from(n)))
-        }
-        13 => {
-            let n = if rng.flag() { 0 } else { rng.up_to(22) };
-            packet(rng.below(64) as u8, &rng.bytes(usize::from(n)))
-        }
-        14 => packet(command | rng.pick(&[64, 128, 192]), &honest_data(rng, command)),
-        _ => {
-            let n = rng.up_to(22);
-            packet(rng.byte(), &rng.bytes(usize::from(n)))
-        }
-    }
-}
-
-fn damage(rng: &mut Rng, bytes: &mut Vec<u8>) {
-    let at = rng.below(bytes.len());
-    let last = bytes.len() - 1;
-    match rng.below(7) {
-        0 => bytes[at] ^= 1 << rng.below(8),
-        1 => bytes[at] = rng.byte(),
-        2 => {
-            bytes.remove(at);
-        }
-        3 => bytes.insert(at, rng.byte()),
-        4 => bytes.truncate(at),
-        5 => bytes.swap(last - 1, last),
-        _ => {
-            bytes[last - 1] ^= 255;
-            bytes[last] ^= 255;
-        }
-    }
-}
-
-/// A stretch of the line: packets, damage, noise, runs.
-fn stretch(rng: &mut Rng) -> Vec<u8> {
-    match rng.below(24) {
-        0..=13 => any_packet(rng),
-        14 | 15 => {
-            let mut bytes = any_packet(rng);
-            damage(rng, &mut bytes);
-            bytes
-        }
-        16 | 17 => {
-            let n = rng.between(1, 40);
-            rng.bytes(n)
-        }
-        18 | 19 => {
-            let n = rng.between(1, 40);
-            (0..n).map(|_| rng.up_to(24)).collect()
-        }
-        20 => vec![rng.pick(&[0x16, 0x16, 0x17, 0x15, 0, 1, 2, 255]); rng.between(1, 60)],
-        21 => vec![rng.byte(); rng.between(1, 60)],
-        _ => {
-            // Packets inside a candidate that is none.
-            let mut bytes = vec![rng.byte(), rng.up_to(22)];
-            bytes.extend(any_packet(rng));
-            bytes.extend(any_packet(rng));
-            bytes
-        }
-    }
-}
-
-fn traffic(rng: &mut Rng, at_least: usize) -> Vec<u8> {
-    let mut bytes = Vec::new();
-    while bytes.len() < at_least {
-        bytes.extend(stretch(rng));
-    }
-    bytes
-}
-
-// ---------------------------------------------------------------------------------------------------------------------------
 // States, registers, fonts
 // ---------------------------------------------------------------------------------------------------------------------------
-
-/// Where the live settings and the boot state stand in the state, and how long they are.
-const LIVE: usize = 26;
-const BOOT: usize = 195;
-const SETTINGS: usize = 169;
 
 /// The highest value in range of a settings byte; 254 for the contrast. Text is free.
 fn settings_most(offset: usize) -> Option<u8> {
@@ -861,10 +604,10 @@ fn settings_most(offset: usize) -> Option<u8> {
 fn state_most(offset: usize) -> Option<u8> {
     match offset {
         0 => Some(25),
-        LIVE..=194 => settings_most(offset - LIVE),
-        BOOT..=363 => settings_most(offset - BOOT),
-        364..=366 => Some(63),
-        367..=381 => Some(1),
+        LIVE..BOOT => settings_most(offset - LIVE),
+        BOOT..KEYS => settings_most(offset - BOOT),
+        KEYS..PINS => Some(63),
+        PINS..FLASH => Some(31),
         _ => None,
     }
 }
@@ -886,15 +629,15 @@ fn random_state(rng: &mut Rng) -> Vec<u8> {
     for start in [LIVE, BOOT] {
         match rng.below(4) {
             0 => {}
-            1 => state[start..start + 80].fill(code(rng)),
-            _ => state[start..start + 80].iter_mut().for_each(|byte| *byte = code(rng)),
+            1 => state[start..start + GLYPHS].fill(code(rng)),
+            _ => state[start..start + GLYPHS].iter_mut().for_each(|byte| *byte = code(rng)),
         }
         if rng.one_in(3) {
             // Glyphs that draw alike.
             let glyph: Vec<u8> = (0..8).map(|_| rng.up_to(63)).collect();
             for g in 0..8 {
                 if rng.flag() {
-                    state[start + 80 + 8 * g..start + 88 + 8 * g].copy_from_slice(&glyph);
+                    state[start + GLYPHS + 8 * g..start + GLYPHS + 8 * g + 8].copy_from_slice(&glyph);
                 }
             }
         }
@@ -904,8 +647,8 @@ fn random_state(rng: &mut Rng) -> Vec<u8> {
         1 => {
             // A boot state that draws the same by other codes: glyph g stands at g + 1.
             state.copy_within(LIVE..BOOT, BOOT);
-            state[BOOT + 80..BOOT + 144].rotate_right(8);
-            state[BOOT..BOOT + 80].iter_mut().filter(|code| **code < 8).for_each(|code| *code = (*code + 1) % 8);
+            state[BOOT + GLYPHS..BOOT + GLYPHS_END].rotate_right(8);
+            state[BOOT..BOOT + GLYPHS].iter_mut().filter(|code| **code < 8).for_each(|code| *code = (*code + 1) % 8);
         }
         _ => {}
     }
@@ -913,14 +656,14 @@ fn random_state(rng: &mut Rng) -> Vec<u8> {
     state[0] = count;
     match rng.below(3) {
         0 => {}
-        1 => state[1..26].copy_from_slice(&traffic(rng, 25)[..25]),
-        _ => state[1..26].fill(rng.pick(&[0x16, 0x15, 0, 1])),
+        1 => state[HELD..UNFILED].copy_from_slice(&traffic(rng, 25)[..25]),
+        _ => state[HELD..UNFILED].fill(rng.pick(&[0x16, 0x15, 0, 1])),
     }
     if rng.one_in(3) {
-        state[1 + usize::from(count)..26].fill(0);
+        state[HELD + usize::from(count)..UNFILED].fill(0);
     }
     let unfiled = if rng.one_in(3) { 0 } else { rng.count() };
-    state[398..].copy_from_slice(&unfiled.to_le_bytes());
+    state[UNFILED..LIVE].copy_from_slice(&unfiled.to_le_bytes());
     state
 }
 
@@ -930,7 +673,7 @@ fn spoil(rng: &mut Rng, state: &mut [u8]) {
         // The settings have most of the bytes; the others get their turn too.
         let offset = match rng.below(4) {
             0 => 0,
-            1 => rng.between(364, 381),
+            1 => rng.between(KEYS, FLASH - 1),
             2 => rng.pick(&[LIVE, BOOT]) + rng.between(144, SETTINGS - 1),
             _ => rng.below(STATE),
         };
@@ -1109,10 +852,10 @@ impl Desk {
     fn any_call(&mut self) -> Call {
         let rng = &mut self.rng;
         match rng.below(6) {
-            0 => Call::Key(rng.up_to(5), rng.flag()),
-            1 => Call::Pin(rng.up_to(4), rng.flag()),
-            2 if rng.one_in(3) => Call::Key(rng.above(5), rng.flag()),
-            2 if rng.flag() => Call::Pin(rng.above(4), rng.flag()),
+            0 => Call::Key(rng.number(5), rng.flag()),
+            1 => Call::Pin(rng.number(4), rng.flag()),
+            2 if rng.one_in(3) => Call::Key(rng.no_number(5), rng.flag()),
+            2 if rng.flag() => Call::Pin(rng.no_number(4), rng.flag()),
             2 => Call::PowerOn,
             _ => Call::Line,
         }
@@ -1122,12 +865,12 @@ impl Desk {
     fn step(&mut self, test: &mut Test) {
         match self.rng.below(100) {
             0..=9 => {
-                let key = if self.rng.one_in(12) { self.rng.above(5) } else { self.rng.up_to(5) };
+                let key = if self.rng.one_in(12) { self.rng.no_number(5) } else { self.rng.number(5) };
                 let down = self.rng.flag();
                 self.call(test, Call::Key(key, down), &[]);
             }
             10..=17 => {
-                let pin = if self.rng.one_in(12) { self.rng.above(4) } else { self.rng.up_to(4) };
+                let pin = if self.rng.one_in(12) { self.rng.no_number(4) } else { self.rng.number(4) };
                 let high = self.rng.flag();
                 self.call(test, Call::Pin(pin, high), &[]);
             }
@@ -1318,6 +1061,150 @@ fn worked_cases(test: &mut Test) -> u64 {
 }
 
 // ---------------------------------------------------------------------------------------------------------------------------
+// The names of the header
+// ---------------------------------------------------------------------------------------------------------------------------
+
+/// The numbers of `naupelys.h` by their names, and which of them were asked for.
+struct Header {
+    numbers: BTreeMap<&'static str, usize>,
+    asked: BTreeSet<&'static str>,
+}
+
+impl Header {
+    fn read() -> Header {
+        let lines = include_str!("../include/naupelys.h").split(['\n', '{', '}', ',']);
+        let numbers = lines.filter_map(|line| {
+            let (name, number) = line.trim().split_once(" = ")?;
+            Some((name.strip_prefix("NAUPELYS_")?, number.parse().ok()?))
+        });
+        Header { numbers: numbers.collect(), asked: BTreeSet::new() }
+    }
+
+    fn number(&mut self, name: &'static str) -> usize {
+        self.asked.insert(name);
+        *self.numbers.get(name).unwrap_or_else(|| panic!("naupelys.h has no NAUPELYS_{name}"))
+    }
+}
+
+/// Each name of the header stands for the place where the calls put what it names. Gives how many names.
+fn header_names(test: &mut Test) -> u64 {
+    test.part = "the header's names";
+    let mut header = Header::read();
+    let sizes = [
+        ("STATE", STATE),
+        ("PIECE_MOST", PIECE_MOST),
+        ("PICTURE", PICTURE),
+        ("FONT", FONT),
+        ("LIST", LIST),
+        ("REPLY", REPLY),
+        ("REGISTER", REGISTER),
+        ("SAID", SAID),
+        ("SETTINGS", SETTINGS),
+        ("RECORD", REGISTER / 64),
+        ("RECORDS", 64),
+        ("LAYOUT", 2),
+    ];
+    for (name, size) in sizes {
+        expect(name, header.number(name), size);
+    }
+    let numbers = ["WAITING", "STRAY", "DONE", "REFUSED"].into_iter().zip(1..);
+    let refused = ["BAD_STATE", "BAD_PIECE", "BAD_PICTURE", "BAD_FONT", "BAD_LIST", "BAD_REPLY", "BAD_REGISTER"];
+    let refused = refused.into_iter().chain(["BAD_NUMBER", "KEY_AS_TOLD"]).zip(10..);
+    for (name, number) in numbers.chain(refused) {
+        expect(name, header.number(name), number);
+    }
+
+    let mut desk = Desk::random(Rng(2));
+    desk.call(test, Call::PowerOn, &[]);
+    desk.register.fill(0);
+    let factory = desk.state[LIVE..BOOT].to_vec();
+    let live = header.number("STATE_LIVE");
+
+    // Command, data, and where its last bytes come to stand.
+    let glyph = [2, 1, 2, 3, 4, 5, 6, 7, 8];
+    let settings: [(u8, &[u8], &'static str, usize, usize); 12] = [
+        (31, &[3, 1, 65], "SETTINGS_TEXT", 23, 1),
+        (9, &glyph, "SETTINGS_GLYPHS", 16, 8),
+        (11, &[17, 2], "SETTINGS_COLUMN", 0, 2),
+        (11, &[16, 1], "SETTINGS_ROW", 0, 1),
+        (12, &[3], "SETTINGS_STYLE", 0, 1),
+        (13, &[201], "SETTINGS_CONTRAST", 0, 1),
+        (14, &[77], "SETTINGS_BACKLIGHT", 0, 1),
+        (23, &[11, 22], "SETTINGS_PRESS_MASK", 0, 2),
+        (23, &[12, 23], "SETTINGS_RELEASE_MASK", 0, 1),
+        (34, &[7, 51], "SETTINGS_LEVELS", 7, 1),
+        (34, &[3, 52, 13], "SETTINGS_CONFIGS", 3, 1),
+        (2, &[9; 16], "STATE_FLASH", 0, 16),
+    ];
+    for (command, data, name, index, length) in settings {
+        let start = header.number(name) + index + if name == "STATE_FLASH" { 0 } else { live };
+        desk.call(test, Call::Line, &packet(command, data));
+        expect(name, &desk.state[start..start + length], &data[data.len() - length..]);
+    }
+    let boot = header.number("STATE_BOOT");
+    expect("STATE_BOOT", desk.state[boot..boot + SETTINGS].to_vec(), factory);
+    desk.call(test, Call::Line, &packet(4, &[]));
+    expect("STATE_BOOT", desk.state[boot..boot + SETTINGS].to_vec(), desk.state[live..live + SETTINGS].to_vec());
+
+    // Key 4 and then key 2 are pressed, key 4 is let go. Pins 0 and 3 go high, pin 3 low.
+    let keys = [(4, true), (2, true), (4, false)].map(|(key, down)| Call::Key(key, down));
+    let pins = [(0, true), (3, true), (3, false)].map(|(pin, high)| Call::Pin(pin, high));
+    for call in keys.into_iter().chain(pins) {
+        desk.call(test, call, &[]);
+    }
+    let bits = [
+        ("STATE_KEYS_DOWN", 4),
+        ("STATE_KEYS_PRESSED", 20),
+        ("STATE_KEYS_RELEASED", 16),
+        ("STATE_PINS_LAST", 1),
+        ("STATE_PINS_FELL", 8),
+        ("STATE_PINS_ROSE", 9),
+    ];
+    for (name, byte) in bits {
+        expect(name, desk.state[header.number(name)], byte);
+    }
+
+    // A refusal is filed, a second one finds no room, and two bytes are held.
+    let refusal = packet(13, &[255]);
+    desk.call(test, Call::Line, &refusal);
+    for (name, byte) in [("RECORD_COMMAND", 13), ("RECORD_REASON", 3), ("RECORD_PLACE", 2), ("RECORD_COUNT", 1)] {
+        expect(name, desk.register[header.number(name)], byte);
+    }
+    desk.register.fill(255);
+    desk.call(test, Call::Line, &refusal);
+    expect("STATE_UNFILED", desk.state[header.number("STATE_UNFILED")], 1);
+    desk.call(test, Call::Line, &[0x1F, 0x05]);
+    expect("STATE_HELD_COUNT", desk.state[header.number("STATE_HELD_COUNT")], 2);
+    expect("STATE_HELD", desk.state[header.number("STATE_HELD")], 0x1F);
+
+    // A byte is dropped, and a text that does not fit is refused; then one that fits is written.
+    desk.state[0] = 0;
+    let long = [&[255][..], &packet(31, &[19, 0, 65, 66])[..]].concat();
+    let said = [
+        ("SAID_NUMBER", 4),
+        ("SAID_COMMAND", 31),
+        ("SAID_REASON", 4),
+        ("SAID_PLACE", 5),
+        ("SAID_TAKEN", 9),
+        ("SAID_DROPPED", 1),
+        ("SAID_CHECKED", 6),
+        ("SAID_REPLY", 4),
+    ];
+    let lent = desk.lend();
+    let left = test.call(Call::Line, lent, &long, &program_font());
+    for (name, byte) in said {
+        expect(name, left.said.bytes()[header.number(name)], byte);
+    }
+    let lent = desk.lend();
+    let left = test.call(Call::Line, lent, &packet(31, &[0, 0, 33, 34, 35]), &program_font());
+    expect("SAID_CELLS", left.said.bytes()[header.number("SAID_CELLS")], 3);
+
+    let all: BTreeSet<&str> = header.numbers.keys().copied().collect();
+    expect("names of the header that were tried", header.asked.clone(), all);
+    header.asked.len() as u64
+}
+
+// ---------------------------------------------------------------------------------------------------------------------------
 // The sweeps
 // ---------------------------------------------------------------------------------------------------------------------------
 
@@ -1336,8 +1223,8 @@ fn sweeps(test: &mut Test) {
         let mut desk = fresh(test, "the sweep over states");
         let base = random_state(&mut desk.rng);
         for value in 0..=255 {
-            let key = Call::Key(desk.rng.up_to(5), desk.rng.flag());
-            let pin = Call::Pin(desk.rng.up_to(4), desk.rng.flag());
+            let key = Call::Key(desk.rng.number(5), desk.rng.flag());
+            let pin = Call::Pin(desk.rng.number(4), desk.rng.flag());
             let piece = if value % 4 == 0 { any_packet(&mut desk.rng) } else { Vec::new() };
             for call in [Call::Line, key, pin] {
                 desk.state.copy_from_slice(&base);
@@ -1406,7 +1293,10 @@ fn sweeps(test: &mut Test) {
         }
     }
 
-    for value in 0..=255 {
+    // Every number of a byte, and those that would be one of them if their high bytes were lost.
+    let wider = [256, 512, 0xFF00, 65_536, 0x00FF_0000, 0x0100_0000, 0x8000_0000, 0xFFFF_FF00];
+    let wide = wider.into_iter().flat_map(|high| (0..=6).map(move |low| high + low));
+    for value in (0..=255).chain(wide) {
         let mut desk = fresh(test, "the sweep over keys and pins");
         for _ in 0..8 {
             let state = random_state(&mut desk.rng);
@@ -1466,7 +1356,7 @@ fn main() {
     println!("fixed seed {FIXED_SEED}, second seed {second_seed}");
     std::io::stdout().flush().ok();
     let start = Instant::now();
-    let cases = worked_cases(&mut test);
+    let cases = worked_cases(&mut test) + header_names(&mut test);
     sweeps(&mut test);
     let swept = test.calls;
     test.part = "the random sequences";

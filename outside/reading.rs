@@ -1,7 +1,7 @@
 //! A second reading of document 01, in plain Rust, written from the paper and from `naupelys.h` alone. It shares nothing with
 //! the library, so that the two can be compared. The headings are the paper's.
 
-pub const STATE: usize = 402;
+pub const STATE: usize = 390;
 pub const PIECE_MOST: usize = 4096;
 pub const PICTURE: usize = 640;
 pub const FONT: usize = 2048;
@@ -296,17 +296,13 @@ impl Panel {
     /// "at most 25 bytes are held and each value, boot state included and taken alone (each key and edge bit too), is one that
     /// the commands and events below can set".
     fn in_range(&self) -> bool {
-        let bits = |pins: &[u8; 5]| pins.iter().all(|&bit| bit <= 1);
         self.hold.count <= HELD_MOST
             && self.live.in_range()
             && self.boot.in_range()
             && [self.down, self.pressed, self.released].iter().all(|&keys| keys < 1 << KEYS)
-            && bits(&self.last)
-            && bits(&self.fell)
-            && bits(&self.rose)
     }
 
-    /// The panel in these bytes, if there are 402 and it is in its ranges.
+    /// The panel in these bytes, if there are 390 and it is in its ranges.
     fn decode(state: &[u8]) -> Option<Panel> {
         if state.len() != STATE {
             return None;
@@ -317,16 +313,16 @@ impl Panel {
         held[..HELD_MOST].copy_from_slice(&bytes.take::<HELD_MOST>());
         let panel = Panel {
             hold: Hold { count, bytes: held },
+            unfiled: u32::from_le_bytes(bytes.take()),
             live: Settings::decode(&mut bytes),
             boot: Settings::decode(&mut bytes),
             down: bytes.byte(),
             pressed: bytes.byte(),
             released: bytes.byte(),
-            last: bytes.take(),
-            fell: bytes.take(),
-            rose: bytes.take(),
+            last: pins_of(bytes.byte())?,
+            fell: pins_of(bytes.byte())?,
+            rose: pins_of(bytes.byte())?,
             flash: bytes.take(),
-            unfiled: u32::from_le_bytes(bytes.take()),
         };
         panel.in_range().then_some(panel)
     }
@@ -335,15 +331,22 @@ impl Panel {
         let mut room = Room(state);
         room.put(&[self.hold.count as u8]);
         room.put(&self.hold.bytes[..HELD_MOST]);
+        room.put(&self.unfiled.to_le_bytes());
         self.live.encode(&mut room);
         self.boot.encode(&mut room);
         room.put(&[self.down, self.pressed, self.released]);
-        room.put(&self.last);
-        room.put(&self.fell);
-        room.put(&self.rose);
+        room.put(&[bits_of(&self.last), bits_of(&self.fell), bits_of(&self.rose)]);
         room.put(&self.flash);
-        room.put(&self.unfiled.to_le_bytes());
     }
+}
+
+/// Pins 0 to 4 from the bits of a byte, "bit number = pin number". Nothing can set a bit of pins 5 to 7: it is out of range.
+fn pins_of(byte: u8) -> Option<[u8; 5]> {
+    (byte < 1 << 5).then(|| std::array::from_fn(|pin| byte >> pin & 1))
+}
+
+fn bits_of(pins: &[u8; 5]) -> u8 {
+    (0..5).map(|pin| pins[pin] << pin).sum()
 }
 
 /// Bytes still to be decoded.
@@ -643,7 +646,7 @@ fn repaint(before: &Settings, after: &Settings, font: &[u8], picture: &mut [u8],
 // The four calls
 // ---------------------------------------------------------------------------------------------------------------------------
 
-/// The panel at power-on. "a refused power-on still returns the power-on state"; a state that is not 402 bytes has no room for
+/// The panel at power-on. "a refused power-on still returns the power-on state"; a state that is not 390 bytes has no room for
 /// it, and is answered with 10.
 pub fn power_on(state: &mut [u8], picture: &mut [u8], font: &[u8], said: &mut [u8; SAID]) -> u8 {
     if state.len() != STATE {
@@ -749,14 +752,14 @@ const KEYS: u8 = 6;
 const PRESS_REPORT: [u8; KEYS as usize] = [1, 5, 6, 3, 4, 2];
 
 /// A key goes down or up.
-pub fn key(state: &mut [u8], key: u8, down: bool, reply: &mut [u8], said: &mut [u8; SAID]) -> u8 {
+pub fn key(state: &mut [u8], key: u32, down: bool, reply: &mut [u8], said: &mut [u8; SAID]) -> u8 {
     let Some(mut panel) = Panel::decode(state) else {
         return Answer::only(BAD_STATE).say(said);
     };
     if reply.len() != REPLY {
         return Answer::only(BAD_REPLY).say(said);
     }
-    if key >= KEYS {
+    if key >= u32::from(KEYS) {
         return Answer::only(BAD_NUMBER).say(said);
     }
     let bit = 1 << key;
@@ -764,7 +767,7 @@ pub fn key(state: &mut [u8], key: u8, down: bool, reply: &mut [u8], said: &mut [
         return Answer::only(KEY_AS_TOLD).say(said);
     }
 
-    let press = PRESS_REPORT[usize::from(key)];
+    let press = PRESS_REPORT[key as usize];
     let (mask, report) = if down {
         panel.down |= bit;
         panel.pressed |= bit;
@@ -783,15 +786,15 @@ pub fn key(state: &mut [u8], key: u8, down: bool, reply: &mut [u8], said: &mut [
 }
 
 /// The level at a pin, 0 to 4. "A pin event with the level unchanged marks no edge."
-pub fn pin(state: &mut [u8], pin: u8, high: bool, said: &mut [u8; SAID]) -> u8 {
+pub fn pin(state: &mut [u8], pin: u32, high: bool, said: &mut [u8; SAID]) -> u8 {
     let Some(mut panel) = Panel::decode(state) else {
         return Answer::only(BAD_STATE).say(said);
     };
-    if pin > 4 {
+    if pin >= 5 {
         return Answer::only(BAD_NUMBER).say(said);
     }
 
-    let pin = usize::from(pin);
+    let pin = pin as usize;
     let level = u8::from(high);
     if level > panel.last[pin] {
         panel.rose[pin] = 1;

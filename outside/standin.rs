@@ -80,7 +80,7 @@ pub unsafe extern "C" fn naupelys_line(
 pub unsafe extern "C" fn naupelys_key(
     state: *mut u8,
     state_size: usize,
-    key: u8,
+    key: u32,
     down: bool,
     reply: *mut u8,
     reply_size: usize,
@@ -92,6 +92,6 @@ pub unsafe extern "C" fn naupelys_key(
 /// # Safety
 /// As `naupelys.h` says.
 #[no_mangle]
-pub unsafe extern "C" fn naupelys_pin(state: *mut u8, state_size: usize, pin: u8, high: bool, said: *mut u8) -> u8 {
+pub unsafe extern "C" fn naupelys_pin(state: *mut u8, state_size: usize, pin: u32, high: bool, said: *mut u8) -> u8 {
     reading::pin(lent(state, state_size), pin, high, answer(said))
 }

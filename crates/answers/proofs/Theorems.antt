@@ -1,10 +1,14 @@
 -- For each public function, any two results that its promise allows are equal.
 use Prim.Native.Nat.{ℕ}
+use mathlib.Core.Bool.{Bool}
 use Rattle.lists.specs.Promise.{Determined}
 use Rattle.lists.proofs.Theorems.{one}
 use Rattle.panel.specs.declared.state.Panel.{Panel}
 use Rattle.answers.specs.declared.Answer.{Answer}
-use Rattle.answers.specs.Answer.{Tells, Hands, Refuses, Accepts}
+use Rattle.answers.specs.declared.Check.{Check}
+use Rattle.answers.specs.declared.Checked.{Checked}
+use Rattle.answers.specs.Answer.{Tells, TellsDone, Hands, Refuses, Accepts}
+use Rattle.answers.specs.Checks.{Checks}
 
 pub told-determined : (answer : Answer) → Determined (Tells answer)
 told-determined answer = one _
@@ -12,8 +16,14 @@ told-determined answer = one _
 pub to-file-determined : (answer : Answer) → Determined (Hands answer)
 to-file-determined answer = one _
 
-pub refused-call-determined : (p : Panel) (answer : Answer) → Determined (Refuses p answer)
-refused-call-determined p answer = one _
+pub is-done-determined : (answer : Answer) → Determined (TellsDone answer)
+is-done-determined answer = one _
+
+pub also-determined : (c : Checked) (passes : Bool) (check : Check) → Determined (Checks c passes check)
+also-determined c passes check = one _
+
+pub refused-call-determined : (p : Panel) (check : Check) → Determined (Refuses p check)
+refused-call-determined p check = one _
 
 pub accepted-call-determined : (p : Panel) (reply : ℕ) → Determined (Accepts p reply)
 accepted-call-determined p reply = one _

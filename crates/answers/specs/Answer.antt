@@ -1,35 +1,50 @@
 -- What a call says, in document 01's numbers.
 use Prim.Native.Nat.{ℕ}
 use mathlib.Core.Path.{_≡_}
-use mathlib.Core.List.{List, [], _∷_}
-use mathlib.Core.Bool.{Bool}
-use Rattle.lists.specs.Tests.{when_then_else_, _=?_}
+use mathlib.Core.Bool.{Bool, true, false}
+use Rattle.lists.specs.Tests.{_=?_}
+use Rattle.framing.specs.declared.scan.Counts.{Counts}
 use Rattle.panel.specs.declared.state.Panel.{Panel}
+use Rattle.panel.specs.State.{lineUnfiled}
 use Rattle.verdict.specs.Verdict.{reasonNumber}
+use Rattle.answers.specs.declared.Check.{Check}
+use Rattle.answers.specs.declared.Check.the-variants.{StateRange, PieceSize, PictureSize, FontSize, ListSize, ReplySize, RegisterSize, KeyOrPin, KeyAsTold}
 use Rattle.answers.specs.declared.Answer.{Answer}
-use Rattle.answers.specs.declared.Answer.the-variants.{Waiting, Stray, Done, Refused, StateOutOfRange, PieceTooLong, PictureSize, FontSize, ListSize, ReplySize, RegisterSize, KeyOrPinNumber, KeyAsTold}
+use Rattle.answers.specs.declared.Answer.the-variants.{Waiting, Stray, Done, Refused, CallRefused}
 use Rattle.answers.specs.declared.Said.{Said}
 use Rattle.answers.specs.declared.Numbers.{Numbers}
 use Rattle.answers.specs.declared.Filing.{Filing}
 
+-- the table of "What a call says", from 10 on
+unfoldable pub checkNumber : Check → ℕ
+checkNumber StateRange = 10
+checkNumber PieceSize = 11
+checkNumber PictureSize = 12
+checkNumber FontSize = 13
+checkNumber ListSize = 14
+checkNumber ReplySize = 15
+checkNumber RegisterSize = 16
+checkNumber KeyOrPin = 17
+checkNumber KeyAsTold = 18
+
 abbrev pub numbered : ℕ → ℕ → Numbers
 numbered number command = record { number = number; command = command; reason = 0; place = 0 }
 
--- the table of "What a call says": "An answer without a command, reason or place gives 0 for it."
+-- the whole table: "An answer without a command, reason or place gives 0 for it."
 unfoldable pub numbersOf : Answer → Numbers
 numbersOf Waiting = numbered 1 0
 numbersOf (Stray command) = numbered 2 command
 numbersOf (Done command) = numbered 3 command
 numbersOf (Refused command reason place) = record { number = 4; command = command; reason = reasonNumber reason; place = place }
-numbersOf StateOutOfRange = numbered 10 0
-numbersOf PieceTooLong = numbered 11 0
-numbersOf PictureSize = numbered 12 0
-numbersOf FontSize = numbered 13 0
-numbersOf ListSize = numbered 14 0
-numbersOf ReplySize = numbered 15 0
-numbersOf RegisterSize = numbered 16 0
-numbersOf KeyOrPinNumber = numbered 17 0
-numbersOf KeyAsTold = numbered 18 0
+numbersOf (CallRefused check) = numbered (checkNumber check) 0
+
+-- 3: "done"
+unfoldable pub isDone : Answer → Bool
+isDone Waiting = false
+isDone (Stray command) = false
+isDone (Done command) = true
+isDone (Refused command reason place) = false
+isDone (CallRefused check) = false
 
 -- "packet refused, with reason and place": what is to be filed
 abbrev pub filingOf : Answer → Filing
@@ -39,22 +54,17 @@ filingOf a =
       key = record { command = numbersOf a .command; reason = numbersOf a .reason; place = numbersOf a .place };
     }
 
--- a check of a call, and the answer that it gives where it fails
-pub data Check : Type 0 where
-  check : Bool → Answer → Check
-
--- "The lowest number that applies is given": the checks stand in the order of their numbers, and the first that fails answers
-unfoldable pub decided {ℓ} : {A : Type ℓ} → List Check → (Answer → A) → A → A
-decided [] refused accepted = accepted
-decided (check passes answer ∷ checks) refused accepted = when passes then decided checks refused accepted else refused answer
+-- "all counts 0"
+abbrev pub noCounts : Counts
+noCounts = record { taken = 0; dropped = 0; checked = 0 }
 
 -- a call that takes nothing of the line: all counts 0, no cells listed, and a reply of some length
 abbrev pub nothingTaken : Panel → Answer → ℕ → Said
-nothingTaken p a reply = record { panel = p; answer = a; taken = 0; dropped = 0; checked = 0; reply = reply; listed = 0 }
+nothingTaken p a reply = record { panel = p; answer = a; counts = noCounts; reply = reply; listed = 0 }
 
 -- "'Nothing' means state unchanged, all counts 0, no cells listed."
-abbrev pub refusedCall : Panel → Answer → Said
-refusedCall p a = nothingTaken p a 0
+abbrev pub refusedCall : Panel → Check → Said
+refusedCall p check = nothingTaken p (CallRefused check) 0
 
 -- "An accepted key, pin or power-on call answers 3."
 abbrev pub acceptedCall : Panel → ℕ → Said
@@ -64,11 +74,9 @@ acceptedCall p reply = nothingTaken p (Done 0) reply
 abbrev pub withUnfiled : Said → ℕ → Said
 withUnfiled s n =
     record {
-      panel = record { hold = s .panel .hold; body = s .panel .body; unfiled = n };
+      panel = record { line = lineUnfiled (s .panel .line) n; body = s .panel .body };
       answer = s .answer;
-      taken = s .taken;
-      dropped = s .dropped;
-      checked = s .checked;
+      counts = s .counts;
       reply = s .reply;
       listed = s .listed;
     }
@@ -77,13 +85,17 @@ withUnfiled s n =
 abbrev pub Tells : Answer → Numbers → Type 0
 Tells a r = r ≡ numbersOf a
 
+-- what `is_done` promises
+abbrev pub TellsDone : Answer → Bool → Type 0
+TellsDone a r = r ≡ isDone a
+
 -- what `to_file` promises
 abbrev pub Hands : Answer → Filing → Type 0
 Hands a r = r ≡ filingOf a
 
 -- what `refused_call` promises
-abbrev pub Refuses : Panel → Answer → Said → Type 0
-Refuses p a r = r ≡ refusedCall p a
+abbrev pub Refuses : Panel → Check → Said → Type 0
+Refuses p check r = r ≡ refusedCall p check
 
 -- what `accepted_call` promises
 abbrev pub Accepts : Panel → ℕ → Said → Type 0

@@ -1,36 +1,40 @@
 // What a call says.
 ghost use mathlib.Core.Path.{_≡_};
-ghost use Rattle.answers.specs.Answer.{Tells, Hands, nothingTaken, Refuses, Accepts};
+ghost use Rattle.answers.specs.Answer.{checkNumber, Tells, Hands, TellsDone, nothingTaken, Refuses, Accepts};
+ghost use Rattle.answers.specs.Checks.{Checks};
 use filing::Refusal;
+use framing::scan::Counts;
 use panel::state::Panel;
 use verdict::verdict::Reason;
 
-// A name for each number of the paper's table. A stray, a done command and a refusal carry the command; a refusal its reason
-// and place too.
-pub enum Answer {
-    Waiting,
-    Stray(u8),
-    Done(u8),
-    Refused(u8, Reason, u8),
-    StateOutOfRange,
-    PieceTooLong,
+// The checks of the calls, in the order of their numbers.
+pub enum Check {
+    StateRange,
+    PieceSize,
     PictureSize,
     FontSize,
     ListSize,
     ReplySize,
     RegisterSize,
-    KeyOrPinNumber,
+    KeyOrPin,
     KeyAsTold,
 }
 
-// The panel after a call, its answer, the bytes taken, dropped and run through the checksum, the reply's length and how many
-// cells were listed.
+// A stray, a done command and a refused packet carry the command, a refused packet its reason and place too; a call that is
+// refused by number carries the check that failed.
+pub enum Answer {
+    Waiting,
+    Stray(u8),
+    Done(u8),
+    Refused(u8, Reason, u8),
+    CallRefused(Check),
+}
+
+// The panel after a call, its answer and counts, the reply's length and how many cells were listed.
 pub struct Said {
     pub panel: Panel,
     pub answer: Answer,
-    pub taken: usize,
-    pub dropped: usize,
-    pub checked: usize,
+    pub counts: Counts,
     pub reply: usize,
     pub listed: usize,
 }
@@ -49,6 +53,28 @@ pub struct Filing {
     pub key: Refusal,
 }
 
+// How checks come out: all pass, or the first that fails.
+pub enum Checked {
+    Passes,
+    Fails(Check),
+}
+
+// One check more, which counts where those before it pass.
+pub fn also(c: Checked, passes: bool, check: Check) -> Checked
+    ensures { λ r. ⌜ Checks c passes check r ⌝ }
+{
+    match c {
+        Checked::Passes => {
+            if passes {
+                Checked::Passes
+            } else {
+                Checked::Fails(check)
+            }
+        }
+        Checked::Fails(first) => Checked::Fails(first),
+    }
+}
+
 fn numbered(number: u8, command: u8) -> Numbers
     ensures { λ r. ⌜ r ≡ record { number = number; command = command; reason = 0; place = 0 } ⌝ }
 {
@@ -57,6 +83,22 @@ fn numbered(number: u8, command: u8) -> Numbers
         command,
         reason: 0,
         place: 0,
+    }
+}
+
+fn check_number(check: Check) -> u8
+    ensures { λ r. ⌜ r ≡ checkNumber check ⌝ }
+{
+    match check {
+        Check::StateRange => 10,
+        Check::PieceSize => 11,
+        Check::PictureSize => 12,
+        Check::FontSize => 13,
+        Check::ListSize => 14,
+        Check::ReplySize => 15,
+        Check::RegisterSize => 16,
+        Check::KeyOrPin => 17,
+        Check::KeyAsTold => 18,
     }
 }
 
@@ -73,15 +115,20 @@ pub fn told(answer: Answer) -> Numbers
             reason: verdict::verdict::reason_number(reason),
             place,
         },
-        Answer::StateOutOfRange => numbered(10, 0),
-        Answer::PieceTooLong => numbered(11, 0),
-        Answer::PictureSize => numbered(12, 0),
-        Answer::FontSize => numbered(13, 0),
-        Answer::ListSize => numbered(14, 0),
-        Answer::ReplySize => numbered(15, 0),
-        Answer::RegisterSize => numbered(16, 0),
-        Answer::KeyOrPinNumber => numbered(17, 0),
-        Answer::KeyAsTold => numbered(18, 0),
+        Answer::CallRefused(check) => numbered(check_number(check), 0),
+    }
+}
+
+// Whether an answer says that a command was carried out.
+pub fn is_done(answer: Answer) -> bool
+    ensures { λ r. ⌜ TellsDone answer r ⌝ }
+{
+    match answer {
+        Answer::Done(_) => true,
+        Answer::Waiting => false,
+        Answer::Stray(_) => false,
+        Answer::Refused(_, _, _) => false,
+        Answer::CallRefused(_) => false,
     }
 }
 
@@ -105,22 +152,25 @@ pub fn to_file(answer: Answer) -> Filing
 fn nothing_taken(p: Panel, answer: Answer, reply: usize) -> Said
     ensures { λ r. ⌜ r ≡ nothingTaken p answer reply ⌝ }
 {
-    Said {
-        panel: p,
-        answer,
+    let counts = Counts {
         taken: 0,
         dropped: 0,
         checked: 0,
+    };
+    Said {
+        panel: p,
+        answer,
+        counts,
         reply,
         listed: 0,
     }
 }
 
 // A call that is refused by number: nothing is changed.
-pub fn refused_call(p: Panel, answer: Answer) -> Said
-    ensures { λ r. ⌜ Refuses p answer r ⌝ }
+pub fn refused_call(p: Panel, check: Check) -> Said
+    ensures { λ r. ⌜ Refuses p check r ⌝ }
 {
-    nothing_taken(p, answer, 0)
+    nothing_taken(p, Answer::CallRefused(check), 0)
 }
 
 // A key, pin or power-on call that is accepted, with a reply of so many bytes.

@@ -1,5 +1,6 @@
-// Cases of the whole panel.
+// Cases of the whole panel, over the bytes that a C caller lends.
 use crate::words::COUNT;
+use crate::words::FONT;
 use crate::words::HEADING;
 use crate::words::HIGH;
 use crate::words::LEND;
@@ -10,117 +11,162 @@ use crate::words::RELEASE;
 use crate::words::SET;
 use crate::words::SIZES;
 use crate::words::UNFILED;
-use answers::Said;
-use whole::line::Called;
+use crate::words::VALUE;
+use naupelys::naupelys_key;
+use naupelys::naupelys_line;
+use naupelys::naupelys_pin;
+use naupelys::naupelys_power_on;
+use tally::told::CallTold;
+use tally::told::told;
 
-// The program's font: the rows for code c all equal c mod 64.
-pub fn font() -> [u8; 2048] {
-    let mut f = [0u8; 2048];
-    let mut i: usize = 0;
-    while i < 2048 {
-        f[i] = (i / 8 % 64) as u8;
-        i += 1;
+// A case begins: the programs' font, the panel at power-on and an empty register.
+pub fn begin(state: &mut [u8], picture: &mut [u8], font: &mut [u8], faults: &mut [u8]) {
+    let mut said = [0u8; session::sizes::SAID];
+    let rows = session::font::program_font();
+    lists::paste(font, 0, &rows);
+    naupelys_power_on(state, picture, font, &mut said);
+    lists::paste(faults, 0, &[0u8; session::sizes::FAULTS]);
+}
+
+// One line call, over bytes or by value.
+fn either(
+    by_value: bool,
+    state: &mut [u8],
+    piece: &[u8],
+    picture: &mut [u8],
+    font: &[u8],
+    list: &mut [u8],
+    reply: &mut [u8],
+    faults: &mut [u8],
+    said: &mut [u8; 16],
+) {
+    if by_value {
+        crate::value::line(state, piece, picture, font, list, reply, faults, said);
+        return;
     }
-    f
+    naupelys_line(state, piece, picture, font, list, reply, faults, said);
 }
 
-// A panel at power-on, over a picture of other bytes, and an empty register.
-pub fn powered_on(picture: &mut [u8], font: &[u8]) -> Called {
-    let said = picture::calls::power_on(picture, font);
-    let register = filing::empty();
-    Called { said, register }
-}
-
-// One line call, and its line unless it waits.
-fn call(before: Called, piece: &[u8], picture: &mut [u8], font: &[u8]) -> Called {
-    let mut list = [0u8; 80];
-    let mut reply = [0u8; 26];
-    let panel = before.said.panel;
-    let register = before.register;
-    let c = whole::line::line_in(panel, piece, picture, font, &mut list, &mut reply, register);
-    crate::show::line(c.said, &reply, &list);
+// The call's line, unless it waits.
+fn call(
+    by_value: bool,
+    piece: &[u8],
+    state: &mut [u8],
+    picture: &mut [u8],
+    font: &[u8],
+    faults: &mut [u8],
+) -> CallTold {
+    let mut list = [0u8; session::sizes::LIST];
+    let mut reply = [0u8; session::sizes::REPLY];
+    let mut said = [0u8; session::sizes::SAID];
+    either(
+        by_value,
+        state,
+        piece,
+        picture,
+        font,
+        &mut list,
+        &mut reply,
+        faults,
+        &mut said,
+    );
+    let c = told(&said);
+    crate::show::line(c, &reply, &list);
     c
 }
 
-// Whether the answer is a packet's, so that calls go on.
-fn is_packet(c: Called) -> bool {
-    let n = crate::show::numbers(c.said);
-    (2 <= n.number) & (n.number <= 4)
-}
-
-// Calls until all is taken and the answer is waiting. A packet has at least four bytes and at most 25 are held before, so
+// Calls until all is taken and the answer is waiting. By framing's `four-bytes-a-packet`, with at most 25 bytes held before,
 // there are no more calls than the loop allows; no call takes more than its piece.
-fn calls(before: Called, bytes: &[u8], picture: &mut [u8], font: &[u8]) -> Called {
-    let mut c = before;
+fn calls(
+    by_value: bool,
+    bytes: &[u8],
+    state: &mut [u8],
+    picture: &mut [u8],
+    font: &[u8],
+    faults: &mut [u8],
+) {
     let mut at: usize = 0;
     for _ in 0..bytes.len() / 4 + 8 {
-        c = call(c, &bytes[at..], picture, font);
-        at += lists::at_most(c.said.taken, bytes.len() - at);
-        if !is_packet(c) {
-            return c;
+        let c = call(by_value, &bytes[at..], state, picture, font, faults);
+        at += lists::at_most(c.taken as usize, bytes.len() - at);
+        if (c.number < 2) | (4 < c.number) {
+            return;
         }
     }
-    c
 }
 
-fn heard(line: &[u8], before: Called, picture: &mut [u8], font: &[u8]) -> Called {
+fn heard(
+    by_value: bool,
+    line: &[u8],
+    state: &mut [u8],
+    picture: &mut [u8],
+    font: &[u8],
+    faults: &mut [u8],
+) {
     let mut room = [0u8; 256];
     let n = crate::text::bytes_of(line, &mut room);
-    calls(before, &room[0..n], picture, font)
+    calls(by_value, &room[0..n], state, picture, font, faults);
 }
 
 // A key pressed or released; "lend" presses it with a reply buffer of the size that stands behind the key.
-fn key(word: usize, line: &[u8], before: Said) -> Said {
+fn key(word: usize, line: &[u8], state: &mut [u8]) {
     let mut reply = [0u8; 27];
-    let panel = before.panel;
+    let mut said = [0u8; session::sizes::SAID];
     let size = crate::wrong::reply_size(word, line);
-    let down = word != RELEASE;
-    let s = events::keys::key(panel, crate::text::small(line), down, &mut reply[0..size]);
+    let number = crate::text::small(line) as u32;
+    naupelys_key(
+        state,
+        number,
+        word != RELEASE,
+        &mut reply[0..size],
+        &mut said,
+    );
+    let c = told(&said);
     if word == LEND {
-        crate::show::call(s);
+        crate::show::call(c);
     } else {
-        crate::show::key(s, &reply);
-    }
-    s
-}
-
-fn pin(line: &[u8], before: Said, high: bool) -> Said {
-    let panel = before.panel;
-    let s = events::pins::pin(panel, crate::text::small(line), high);
-    crate::show::call(s);
-    s
-}
-
-// What the panel comes to by a word other than a case's and "line".
-fn said_after(word: usize, line: &[u8], before: Said) -> Said {
-    match word {
-        PRESS | RELEASE | LEND => key(word, line, before),
-        HIGH => pin(line, before, true),
-        LOW => pin(line, before, false),
-        SIZES => crate::wrong::sizes(line, before),
-        SET => crate::wrong::set(line, before),
-        UNFILED => crate::wrong::unfiled(line, before),
-        _ => before,
+        crate::show::key(c, &reply);
     }
 }
 
-fn with_said(word: usize, line: &[u8], before: Called) -> Called {
-    let mut c = before;
-    let s = said_after(word, line, before.said);
-    c.said = s;
-    c
+fn pin(line: &[u8], state: &mut [u8], high: bool) {
+    let mut said = [0u8; session::sizes::SAID];
+    naupelys_pin(state, crate::text::small(line) as u32, high, &mut said);
+    crate::show::call(told(&said));
 }
 
-// A panel and its register after a line of the script.
-pub fn run(word: usize, line: &[u8], before: Called, picture: &mut [u8], font: &[u8]) -> Called {
+// The eight rows of a code in the font that is lent from now on: nine bytes in hexadecimal, the code first.
+fn rows(line: &[u8], font: &mut [u8]) {
+    let mut room = [0u8; 9];
+    crate::text::bytes_of(line, &mut room);
+    lists::paste(font, 8 * lists::wide(room[0]), &room[1..9]);
+}
+
+// A line of the script that changes what is lent.
+pub fn run(
+    word: usize,
+    line: &[u8],
+    state: &mut [u8],
+    picture: &mut [u8],
+    font: &mut [u8],
+    faults: &mut [u8],
+) {
     match word {
         HEADING => {
             crate::text::word(line);
             crate::text::word(b"\n");
-            powered_on(picture, font)
+            begin(state, picture, font, faults);
         }
-        LINE => heard(line, before, picture, font),
-        COUNT => crate::wrong::count(line, before),
-        _ => with_said(word, line, before),
+        FONT => rows(line, font),
+        LINE => heard(false, line, state, picture, font, faults),
+        VALUE => heard(true, line, state, picture, font, faults),
+        COUNT => crate::wrong::count(line, faults),
+        PRESS | RELEASE | LEND => key(word, line, state),
+        HIGH => pin(line, state, true),
+        LOW => pin(line, state, false),
+        SIZES => crate::wrong::sizes(line, state),
+        SET => crate::wrong::set(line, state),
+        UNFILED => crate::wrong::unfiled(line, state),
+        _ => {}
     }
 }

@@ -32,8 +32,8 @@ fn with_call(s: Sums, r: Scanned) -> Sums {
     let hold = r.hold;
     Sums {
         hold,
-        dropped: sum(s.dropped, r.dropped),
-        checked: sum(s.checked, r.checked),
+        dropped: sum(s.dropped, r.counts.dropped),
+        checked: sum(s.checked, r.counts.checked),
     }
 }
 
@@ -41,21 +41,21 @@ fn show_packet(p: Packet) {
     let content = p.content;
     crate::text::word(b" [");
     crate::text::byte(p.kind, true);
-    crate::text::bytes(b"", &content, p.length, true);
+    crate::text::bytes(b"", &content, 0, p.length, true);
     crate::text::word(b"]");
 }
 
 fn shown(r: Scanned, took: bool) {
     if took {
-        crate::text::filled(b" took %", &[r.taken]);
+        crate::text::filled(b" took %", &[r.counts.taken]);
     }
     if r.found {
         show_packet(r.packet);
     }
 }
 
-// Calls until all is taken and the answer is waiting; `took` says whether to print what each call took. A packet has at
-// least four bytes and at most 25 are held before, so there are no more calls than the loop allows.
+// Calls until all is taken and the answer is waiting; `took` says whether to print what each call took. By
+// `four-bytes-a-packet`, with at most 25 bytes held before, there are no more calls than the loop allows.
 fn calls(before: Sums, bytes: &[u8], took: bool) -> Sums {
     let mut s = before;
     let mut at: usize = 0;
@@ -63,7 +63,7 @@ fn calls(before: Sums, bytes: &[u8], took: bool) -> Sums {
         let h = s.hold;
         let r = framing::scan::scan(h, &bytes[at..]);
         s = with_call(s, r);
-        at += r.taken;
+        at += r.counts.taken;
         shown(r, took);
         if !r.found {
             return s;
@@ -103,7 +103,7 @@ fn compose(bytes: &[u8]) {
     let mut out = [0u8; 26];
     if 0 < bytes.len() {
         let n = packets::packet::compose(&mut out, bytes[0], &bytes[1..]);
-        crate::text::bytes(b"", &out, n, true);
+        crate::text::bytes(b"", &out, 0, n, true);
     }
     crate::text::word(b"\n");
 }

@@ -1,26 +1,25 @@
 // Runs the cases that standard input lists, and prints what comes of each.
-// A line with the word # is printed as it is and starts a case: nothing held, the panel at power-on and an empty
-// register. Any other line is a word and what belongs to it; words.rt has them all.
+// A line with the word # is printed as it is and starts a case: nothing held, the panel at power-on, an empty
+// register and the programs' font. Any other line is a word and what belongs to it; words.rt has them all.
 // Of the framing, with bytes in hexadecimal: "sum" prints their checksum; "compose" takes the first as a type and prints the
 // packet of the rest; "scan" calls until all is taken and the answer is waiting, and prints the packets found; "cuts" does
 // so with the bytes cut in two at each place.
 // Of the panel: "line" and bytes in hexadecimal calls so too, and prints of each call that does not wait the answer's
-// number, command, reason, place, the reply and the cells listed; a refusal is filed. "press" and "release" name a key,
-// "high" and "low" a pin. "state" prints the state, "faults" the register, "cell" a cell's bytes, "picture" the checksum of
-// the whole picture. "sizes", "power" and "lend" try buffers of other sizes; "set", "count" and "unfiled" set a value that
-// no command sets.
+// number, command, reason, place, the reply and the cells listed; a refusal is filed. "value" makes the same calls by value
+// and not over bytes. "press" and "release" name a key, "high" and "low" a pin. "state" prints the state, "faults" the
+// register, "cell" a cell's bytes, "picture" the checksum of the whole picture. "sizes", "power" and "lend" try buffers of
+// other sizes; "set", "count" and "unfiled" set a value that no command sets, "font" a code's rows.
 
 mod device;
 mod frames;
 mod show;
 mod text;
+mod value;
 mod words;
 mod wrong;
 
 // The cases, one line after the other.
-fn run(script: &[u8], font: &[u8]) {
-    let mut picture = [170u8; 640];
-    let mut c = device::powered_on(&mut picture, font);
+fn run(script: &[u8], state: &mut [u8], picture: &mut [u8], font: &mut [u8], faults: &mut [u8]) {
     let mut held = packets::hold::empty();
     let mut at: usize = 0;
     while at < script.len() {
@@ -29,14 +28,24 @@ fn run(script: &[u8], font: &[u8]) {
         at = end + 1;
         let word = words::number(line);
         held = frames::run(word, line, held);
-        c = device::run(word, line, c, &mut picture, font);
-        show::run(word, line, c, &picture);
+        device::run(word, line, state, picture, font, faults);
+        show::run(word, line, state, picture, faults);
     }
 }
 
 fn main() {
-    let font = device::font();
     let mut script = io::large_buffer();
     let n = io::read_full(libc::STDIN_FILENO, &mut script);
-    run(&script[..n], &font);
+    let mut font = [0u8; session::sizes::FONT];
+    let mut state = [0u8; session::sizes::STATE];
+    let mut picture = [170u8; session::sizes::PICTURE];
+    let mut faults = [0u8; session::sizes::FAULTS];
+    device::begin(&mut state, &mut picture, &mut font, &mut faults);
+    run(
+        &script[..n],
+        &mut state,
+        &mut picture,
+        &mut font,
+        &mut faults,
+    );
 }

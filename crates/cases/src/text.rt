@@ -77,13 +77,15 @@ pub fn byte(b: u8, hex: bool) {
     }
 }
 
-// A word and the first `n` bytes, each behind a blank.
-pub fn bytes(before: &[u8], s: &[u8], n: usize, hex: bool) {
+// A word and `n` bytes from a place on, each behind a blank.
+pub fn bytes(before: &[u8], s: &[u8], place: usize, n: usize, hex: bool) {
     word(before);
     let mut i: usize = 0;
-    while i < s.len() && i < n {
-        word(b" ");
-        byte(s[i], hex);
+    while i < s.len() {
+        if place <= i && i - place < n {
+            word(b" ");
+            byte(s[i], hex);
+        }
         i += 1;
     }
 }

@@ -1,7 +1,7 @@
 // The words of a script, each with its number.
 use crate::text::until;
 
-// A case begins, or a value is set, and nothing is printed.
+// A case begins, or a value or a code's rows are set, and nothing is printed.
 pub const HEADING: usize = 0;
 
 pub const SET: usize = 1;
@@ -9,40 +9,46 @@ pub const SET: usize = 1;
 pub const UNFILED: usize = 2;
 
 pub const COUNT: usize = 3;
+
+pub const FONT: usize = 4;
+
 // What is printed begins with another word.
-pub const LINE: usize = 4;
+pub const LINE: usize = 5;
 
-pub const FAULTS: usize = 5;
+pub const VALUE: usize = 6;
 
-pub const CUTS: usize = 6;
+pub const FAULTS: usize = 7;
+
+pub const CUTS: usize = 8;
+
 // What is printed begins with the word itself.
-pub const PRESS: usize = 7;
+pub const PRESS: usize = 9;
 
-pub const RELEASE: usize = 8;
+pub const RELEASE: usize = 10;
 
-pub const LEND: usize = 9;
+pub const LEND: usize = 11;
 
-pub const HIGH: usize = 10;
+pub const HIGH: usize = 12;
 
-pub const LOW: usize = 11;
+pub const LOW: usize = 13;
 
-pub const SIZES: usize = 12;
+pub const SIZES: usize = 14;
 
-pub const POWER: usize = 13;
+pub const POWER: usize = 15;
 
-pub const STATE: usize = 14;
+pub const STATE: usize = 16;
 
-pub const CELL: usize = 15;
+pub const CELL: usize = 17;
 
-pub const PICTURE: usize = 16;
+pub const PICTURE: usize = 18;
 
-pub const SCAN: usize = 17;
+pub const SCAN: usize = 19;
 
-pub const COMPOSE: usize = 18;
+pub const COMPOSE: usize = 20;
 
-pub const SUM: usize = 19;
+pub const SUM: usize = 21;
 
-const OTHER: usize = 20;
+const OTHER: usize = 22;
 
 fn same(a: &[u8], b: &[u8]) -> bool {
     if a.len() != b.len() {
@@ -79,7 +85,7 @@ pub fn number(line: &[u8]) -> usize {
     let word = &line[0..end];
     let n = place(
         word,
-        b"# set unfiled count line faults cuts press release lend high low sizes power state cell picture scan compose sum",
+        b"# set unfiled count font line value faults cuts press release lend high low sizes power state cell picture scan compose sum",
     );
     if PRESS <= n && n < OTHER {
         crate::text::word(word);

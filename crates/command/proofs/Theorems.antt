@@ -1,12 +1,16 @@
--- Any two results that the promise of `hear` allows are equal, the lent buffer included.
-use Prim.Native.Nat.{ℕ}
-use mathlib.Core.List.{List}
+-- What holds of carrying out a command over and above the function's own promise.
+use mathlib.Core.Path.{_≡_, refl}
+use lib.ListN.{length}
 use Rattle.lists.specs.Promise.{Determined}
-use Rattle.lists.proofs.Theorems.{one, and}
-use Rattle.framing.specs.declared.scan.Scanned.{Scanned}
-use Rattle.panel.specs.declared.state.Panel.{Panel}
-use Rattle.answers.specs.declared.Said.{Said}
-use Rattle.command.specs.Hear.{Hears}
+use Rattle.lists.proofs.Theorems.{one}
+use Rattle.packets.specs.declared.packet.Packet.{Packet}
+use Rattle.panel.specs.declared.state.Body.{Body}
+use Rattle.command.specs.Commands.{version, Carries}
 
-pub hear-determined : (p : Panel) (s : Scanned) (reply : List ℕ) → Determined (λ (x : Said × List ℕ). Hears p s reply (x .0) (x .1))
-hear-determined p s reply = and (one _) (one _)
+-- The version that command 1 replies has 16 bytes.
+pub version-length : length version ≡ 16
+version-length = refl
+
+-- Any two results that the promise allows are equal.
+pub carry-out-determined : (b : Body) (p : Packet) → Determined (Carries b p)
+carry-out-determined b p = one _

@@ -1,2 +1,4 @@
-// The commands: what a packet from the line does to the panel, and what the panel answers.
-pub mod hear;
+// Carrying out the eighteen commands: what each does to the body, and what it replies.
+pub mod carry;
+mod effect;
+mod reply;

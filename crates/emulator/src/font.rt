@@ -1,5 +1,7 @@
 // The letters of the glass: five dots by seven, so that a dot column and a dot line stay free between two letters.
 
+use session::sizes::FONT;
+
 // Codes 32 to 126, a number a letter. Its eight bytes are the eight lines from the top; bit 4 of a line is the letter's
 // leftmost dot.
 const LETTERS: [u64; 95] = [
@@ -101,8 +103,8 @@ const LETTERS: [u64; 95] = [
 ];
 
 // Codes 32 to 126 by the table, all others blank.
-fn letters() -> [u8; 2048] {
-    let mut font = [0u8; 2048];
+fn letters() -> [u8; FONT] {
+    let mut font = [0u8; FONT];
     let mut i: usize = 0;
     while i < 760 {
         font[256 + i] = ((LETTERS[i / 8] >> (56 - i % 8 * 8)) % 256) as u8;
@@ -112,7 +114,7 @@ fn letters() -> [u8; 2048] {
 }
 
 // The font to lend: the letters, and code 214, the filled block that LCDproc writes beside its titles.
-pub fn with_block() -> [u8; 2048] {
+pub fn with_block() -> [u8; FONT] {
     let mut font = letters();
     lists::paste(&mut font, 1712, b"\x1f\x1f\x1f\x1f\x1f\x1f\x1f\x1f");
     font

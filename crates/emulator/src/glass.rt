@@ -1,6 +1,7 @@
 // The glass on standard error, dot by dot from the painted picture: a cell is three braille characters wide and two high,
 // inside a frame at the top left of the screen.
 use libc::STDERR_FILENO;
+use tally::text::word;
 
 // Four lines of a cell, from the top: the upper half or the lower.
 struct Four {
@@ -89,58 +90,35 @@ fn half_text(l: Four, row: u8, column: u8) -> [u8; 17] {
 }
 
 // The text of up to 80 cells and of the cursor's parking place.
-struct Screen {
-    bytes: [u8; 2728],
-    length: usize,
-}
-
-fn blank() -> Screen {
-    Screen {
-        bytes: [0u8; 2728],
-        length: 0,
-    }
-}
-
-// The text with a run behind it; what does not fit is left out.
-fn word(s: Screen, run: &[u8]) -> Screen {
-    let mut bytes = s.bytes;
-    let n = lists::at_most(s.length, 2728);
-    lists::paste(&mut bytes, n, run);
-    Screen {
-        bytes,
-        length: lists::at_most(n + lists::at_most(run.len(), 2728), 2728),
-    }
-}
-
-fn put(s: Screen) {
-    let bytes = s.bytes;
-    let n = lists::at_most(s.length, 2728);
-    io::write_all(STDERR_FILENO, &bytes[..n]);
-}
+const SCREEN: usize = 2728;
 
 // The frame is one character wide, so that cell 0 begins at the second row and column.
-fn with_cell(s: Screen, picture: &[u8], cell: u8) -> Screen {
+fn with_cell(out: &mut [u8], length: usize, picture: &[u8], cell: u8) -> usize {
     let row = cell / 20 * 2 + 2;
     let column = cell % 20 * 3 + 2;
     let upper = half_text(four_of(picture, cell, 0), row, column);
     let lower = half_text(four_of(picture, cell, 1), row + 1, column);
-    word(word(s, &upper), &lower)
+    let n = word(out, length, &upper);
+    word(out, n, &lower)
 }
 
-fn with_cells(picture: &[u8], list: &[u8], listed: usize) -> Screen {
-    let mut s = blank();
-    let n = lists::at_most(listed, 80);
+fn with_cells(out: &mut [u8], picture: &[u8], list: &[u8], listed: usize) -> usize {
+    let cells = lists::at_most(listed, 80);
+    let mut n: usize = 0;
     let mut i: usize = 0;
-    while i < n {
-        s = with_cell(s, picture, lists::at(list, i));
+    while i < cells {
+        n = with_cell(out, n, picture, lists::at(list, i));
         i += 1;
     }
-    s
+    n
 }
 
 // The listed cells as the picture has them, written at once, and the cursor parked below the frame.
 pub fn draw(picture: &[u8], list: &[u8], listed: usize) {
-    put(word(with_cells(picture, list, listed), b"\x1b[11;01H"));
+    let mut out = [0u8; SCREEN];
+    let n = with_cells(&mut out, picture, list, listed);
+    let end = word(&mut out, n, b"\x1b[11;01H");
+    tally::text::put(STDERR_FILENO, &out, end);
 }
 
 fn every_cell() -> [u8; 80] {

@@ -1,42 +1,100 @@
 // The panel on standard input and output: host bytes in, reply packets out, so that a real host can be attached. With the
 // argument `glass` it also draws the glass on standard error.
-mod attached;
+ghost use mathlib.Core.Path.{_≡_};
+ghost use mathlib.Core.Bool.{false};
+ghost use Rattle.tally.specs.Session.{goesOn};
+
 mod font;
 mod glass;
 
-use attached::Attached;
 use libc::STDERR_FILENO;
-use libc::STDIN_FILENO;
+use libc::STDOUT_FILENO;
+use session::sizes::FAULTS;
+use session::sizes::LIST;
+use session::sizes::PICTURE;
+use session::sizes::REPLY;
+use session::sizes::SAID;
+use session::sizes::STATE;
+use tally::kept::Session;
+use tally::kept::going;
+use tally::kept::lost;
 
-// Reads once and hears what came: a read answers with what has arrived and does not wait for a full buffer. A failed read is
-// told on standard error, and is not taken for the end of the input.
-fn read_some(a: Attached, font: &[u8]) -> Attached {
-    let mut piece = io::buffer();
-    let got = libc::read(STDIN_FILENO, &mut piece);
-    if got < 0 {
-        os::fail(b"emulator: standard input cannot be read");
-        return attached::ended(a);
+// Sends the front of a reply buffer to the host, at once. A failed write is told on standard error.
+fn send(reply: &[u8], length: usize) -> bool {
+    let sent = tally::text::put(STDOUT_FILENO, reply, length);
+    if !sent {
+        os::fail(b"emulator: standard output cannot be written");
     }
-    if got == 0 {
-        return attached::ended(a);
-    }
-    let n = io::count(got, &piece);
-    attached::hear(a, &piece[..n], font)
+    sent
 }
 
-// A proved loop has to end, and nothing says that the input does: the turns are counted down from a number that no run uses up.
-fn read_all(start: Attached, font: &[u8]) {
-    let mut a = start;
-    let mut turns = u64::MAX;
-    while turns > 0 && !a.over {
-        a = read_some(a, font);
-        turns -= 1;
+// What a call replies and draws; the session ends where the reply cannot be written.
+fn told(s: Session, drawn: bool, picture: &[u8], list: &[u8], reply: &[u8]) -> Session
+    ensures { λ r. ⌜ r .steps ≡ s .steps ⌝ }
+{
+    if s.over {
+        return s;
     }
+    let sent = send(reply, s.call.reply);
+    if drawn & (0 < s.call.listed) {
+        glass::draw(picture, list, s.call.listed);
+    }
+    if sent {
+        return s;
+    }
+    lost(s)
 }
 
-fn run(glass: bool) {
+// The steps of a session, to its end.
+fn hear(
+    drawn: bool,
+    piece: &mut [u8],
+    state: &mut [u8],
+    picture: &mut [u8],
+    font: &[u8],
+    list: &mut [u8],
+    reply: &mut [u8],
+    faults: &mut [u8],
+    said: &mut [u8; 16],
+) -> Session
+    ensures { λ r. ⌜ goesOn r ≡ false ⌝ }
+{
+    let mut s = tally::kept::started();
+    while going(s) {
+        s = session::step(s, piece, state, picture, font, list, reply, faults, said);
+        s = told(s, drawn, picture, list, reply);
+    }
+    s
+}
+
+// From power-on to the end of the input. A failed read is told on standard error, and is not taken for the end.
+fn run(drawn: bool) {
     let font = font::with_block();
-    read_all(attached::start(&font, glass), &font);
+    let mut state = [0u8; STATE];
+    let mut picture = [0u8; PICTURE];
+    let mut said = [0u8; SAID];
+    naupelys::naupelys_power_on(&mut state, &mut picture, &font, &mut said);
+    if drawn {
+        glass::draw_first(&picture);
+    }
+    let mut piece = io::buffer();
+    let mut list = [0u8; LIST];
+    let mut reply = [0u8; REPLY];
+    let mut faults = [0u8; FAULTS];
+    let s = hear(
+        drawn,
+        &mut piece,
+        &mut state,
+        &mut picture,
+        &font,
+        &mut list,
+        &mut reply,
+        &mut faults,
+        &mut said,
+    );
+    if s.failed {
+        os::fail(b"emulator: standard input cannot be read");
+    }
 }
 
 fn is_glass(word: &[u8]) -> bool {

@@ -1,4 +1,5 @@
-pub mod Bits
+pub mod Compared
 pub mod Events
 pub mod KeyCalls
+pub mod Refusals
 pub mod Theorems

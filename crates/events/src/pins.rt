@@ -2,44 +2,54 @@
 ghost use mathlib.Core.Path.{_≡_};
 ghost use Prim.Native.Nat.{_<_};
 ghost use Rattle.events.specs.Pins.{pinEvent, Moves};
-use answers::Answer;
+use answers::Check;
+use answers::Checked;
 use answers::Said;
 use answers::accepted_call;
+use answers::also;
 use answers::refused_call;
 use panel::state::Panel;
 use panel::state::Pins;
 
 // The level, and the edge if it changed.
-fn after_event(mut p: Pins, number: u8, high: bool) -> Pins
+fn after_event(p: Pins, number: u8, high: bool) -> Pins
     requires { ⌜ number < 5 ⌝ }
     ensures { λ r. ⌜ r ≡ pinEvent high number p ⌝ }
 {
-    let i = number as usize;
-    if p.last[i] == high {
+    if bits::is_on(p.last, number) == high {
         return p;
     }
-    p.last[i] = high;
     if high {
-        p.rose[i] = true;
-    } else {
-        p.fell[i] = true;
+        return Pins {
+            last: bits::with_bit(p.last, number),
+            rose: bits::with_bit(p.rose, number),
+            ..p
+        };
     }
-    p
+    Pins {
+        last: bits::without_bit(p.last, number),
+        fell: bits::with_bit(p.fell, number),
+        ..p
+    }
 }
 
-// A pin's level as it is now.
-pub fn pin(mut p: Panel, number: u8, high: bool) -> Said
+// A pin's level as it is now. The checks stand in the order of their numbers.
+pub fn pin(mut p: Panel, number: u32, high: bool) -> Said
     ensures { λ r. ⌜ Moves p number high r ⌝ }
 {
-    if !panel::ranges::in_ranges(p) {
-        return refused_call(p, Answer::StateOutOfRange);
+    let state = also(
+        Checked::Passes,
+        panel::ranges::in_ranges(p),
+        Check::StateRange,
+    );
+    match also(state, number <= 4, Check::KeyOrPin) {
+        Checked::Fails(check) => refused_call(p, check),
+        Checked::Passes => {
+            let pins = after_event(p.body.pins, number as u8, high);
+            let mut body = p.body;
+            body.pins = pins;
+            p.body = body;
+            accepted_call(p, 0)
+        }
     }
-    if 4 < number {
-        return refused_call(p, Answer::KeyOrPinNumber);
-    }
-    let pins = after_event(p.body.pins, number, high);
-    let mut body = p.body;
-    body.pins = pins;
-    p.body = body;
-    accepted_call(p, 0)
 }

@@ -18,6 +18,10 @@ pub record Files : Type 0 where
 abbrev pub blank : Record
 blank = record { command = 0; reason = 0; place = 0; count = 0 }
 
+-- "a run of 64 records"
+abbrev pub registerRecords : ℕ
+registerRecords = 64
+
 abbrev pub most : ℕ
 most = 4294967295
 
@@ -90,4 +94,4 @@ Unfiles unfiled r = r ≡ unfiledMore unfiled
 
 -- what `empty` promises
 abbrev pub Empties : List Record → Type 0
-Empties r = r ≡ replicate 64 blank
+Empties r = r ≡ replicate registerRecords blank

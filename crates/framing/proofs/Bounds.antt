@@ -1,9 +1,10 @@
--- How much a call may hold, take, drop and run through the checksum.
+-- What becomes of the bytes of a call, and how much it may hold, take and run through the checksum.
 use mathlib.Core.Path.{_≡_, refl}
 use mathlib.Core.List.{List, [], _∷_, _++_}
 use Prim.Native.Nat.{ℕ, suc, _+_, _*_, _≤_}
 use native.Mathlib.Omega.{arith}
-use lib.ListN.{length, length-append, length-drop}
+use lib.ListN.{length, take, drop, length-append, length-drop}
+use lib.Seq.{length-take-le}
 use Rattle.packets.specs.declared.judge.Judgement.{Judgement}
 use Rattle.packets.specs.declared.judge.Judgement.the-variants.{Wait, LongLength, WrongChecksum, Packet}
 use Rattle.packets.specs.Judge.{lengthByte, judge}
@@ -11,32 +12,35 @@ use Rattle.packets.proofs.Judgements.{Seen, short, part, wrong, whole, see}
 use Rattle.framing.specs.Scan.{Ending, waiting, packet, Outcome, settleAt, settle, goOn, scan}
 use Rattle.framing.proofs.Lines.{settle-taken}
 
--- the least that an ending takes off the line
-abbrev pub least : Ending → ℕ
-least waiting = 0
-least (packet k d) = 4
+-- the bytes of the packet that a call ends with
+abbrev pub removed : Ending → ℕ
+removed waiting = 0
+removed (packet k d) = length d + 4
 
--- n bytes were there: what is kept, dropped and taken off are among them, and each byte that went was checked 24 times at most
+-- n bytes were there: each is dropped, of the packet or held, and each byte that went was checked 24 times at most
 pub record Within (n : ℕ) (o : Outcome) : Type 0 where
-  pub kept : length (o .hold) + o .dropped + least (o .ending) ≤ n
-  pub worked : o .checked ≤ 24 * (o .dropped + least (o .ending))
+  pub adds-up : n ≡ o .dropped + removed (o .ending) + length (o .hold)
+  pub worked : o .checked ≤ 24 * (o .dropped + removed (o .ending))
 
 within-at : (b : ℕ) (h : List ℕ) (j : Judgement) (o : Outcome) → judge (b ∷ h) ≡ j → Within (length h) o → Within (length (b ∷ h)) (settleAt j (b ∷ h) o)
 unfolding settleAt
-within-at b h Wait o e i = record { kept = omega arith; worked = omega arith }
-within-at b h LongLength o e i = record { kept = omega arith; worked = omega arith }
+within-at b h Wait o e i = record { adds-up = omega arith; worked = omega arith }
+within-at b h LongLength o e i = record { adds-up = omega arith; worked = omega arith }
 within-at b h WrongChecksum o e i = go (see (b ∷ h) WrongChecksum e)
   where
     go : Seen (b ∷ h) WrongChecksum → Within (length (b ∷ h)) (settleAt WrongChecksum (b ∷ h) o)
-    go (wrong u v f) = record { kept = omega arith; worked = omega arith }
+    go (wrong u v f) = record { adds-up = omega arith; worked = omega arith }
 within-at b h Packet o e i = go (see (b ∷ h) Packet e)
   where
     go : Seen (b ∷ h) Packet → Within (length (b ∷ h)) (settleAt Packet (b ∷ h) o)
-    go (whole u v f) = record { kept = omega (arith, length-drop (lengthByte (b ∷ h) + 4) (b ∷ h)); worked = omega arith }
+    go (whole u v f) =
+        let n = lengthByte (b ∷ h) in
+        let l : length (take n (drop 2 (b ∷ h))) ≡ n = length-take-le n (drop 2 (b ∷ h)) (omega (arith, length-drop 2 (b ∷ h))) in
+        record { adds-up = omega (arith, length-drop (n + 4) (b ∷ h)); worked = omega arith }
 
 within : (h : List ℕ) → Within (length h) (settle h)
 unfolding settle
-within [] = record { kept = omega arith; worked = omega arith }
+within [] = record { adds-up = omega arith; worked = omega arith }
 within (b ∷ h) = within-at b h (judge (b ∷ h)) (settle h) refl (within h)
 
 call-at : (b : ℕ) (h : List ℕ) (a : Ending) (q : Outcome) → settle h .ending ≡ a → Within (length h) (settle h) → Within (length (settle h .hold ++ b ∷ []) + q .taken) q
@@ -44,13 +48,13 @@ call-at : (b : ℕ) (h : List ℕ) (a : Ending) (q : Outcome) → settle h .endi
 unfolding goOn
 call-at b h waiting q e i j =
     let u = length-append (settle h .hold) (b ∷ []) in
-    record { kept = omega (arith, i .kept, j .kept); worked = omega (arith, i .worked, rw e at (i .worked), j .worked) }
-call-at b h (packet k d) q e i j = record { kept = omega arith; worked = i .worked }
+    record { adds-up = omega (arith, rw e at (i .adds-up), j .adds-up); worked = omega (arith, rw e at (i .worked), j .worked) }
+call-at b h (packet k d) q e i j = record { adds-up = omega (arith, settle-taken h, i .adds-up); worked = i .worked }
 
 -- the bytes of a call are those held before and those taken
 pub call : (h p : List ℕ) → Within (length h + scan h p .taken) (scan h p)
 unfolding scan
-call h [] = let i = within h in record { kept = omega (arith, settle-taken h); worked = i .worked }
+call h [] = let i = within h in record { adds-up = omega (arith, settle-taken h, i .adds-up); worked = i .worked }
 call h (b ∷ p) = let g = settle h .hold ++ b ∷ [] in call-at b h (settle h .ending) (scan g p) refl (within h) (call g p)
 
 held-at : (b : ℕ) (h : List ℕ) (j : Judgement) (o : Outcome) → judge (b ∷ h) ≡ j → length h ≤ 25 → length (o .hold) ≤ 25 → length (settleAt j (b ∷ h) o .hold) ≤ 25

@@ -12,39 +12,39 @@ use Rattle.packets.specs.declared.hold.Hold.{Hold}
 use Rattle.packets.specs.Hold.{held, holdOf}
 use Rattle.packets.proofs.Bytes.{held-holdOf}
 use Rattle.framing.specs.declared.scan.Scanned.{Scanned}
-use Rattle.framing.specs.Scan.{Ending, waiting, packet, isPacket, Outcome, scan, scannedOf, Scans}
+use Rattle.framing.specs.Scan.{Ending, waiting, packet, isPacket, Outcome, scan, scannedOf, pieceMost, Scans}
 use Rattle.framing.specs.Line.{Tally, nothingMore, counted, Calls, last, next, line}
 use Rattle.framing.proofs.Lines.{noted, counted-noted, scanned, all-taken}
 use Rattle.framing.proofs.Bounds.{call, taken-at-most}
 
 -- the piece as a call sees it, and the rest
-split : (piece more : List ℕ) → piece ++ more ≡ take 65535 piece ++ (drop 65535 piece ++ more)
-split piece more = ap (λ (l : List ℕ). l ++ more) (sym (take-append-drop 65535 piece)) ∙ append-assoc (take 65535 piece) (drop 65535 piece) more
+split : (piece more : List ℕ) → piece ++ more ≡ take pieceMost piece ++ (drop pieceMost piece ++ more)
+split piece more = ap (λ (l : List ℕ). l ++ more) (sym (take-append-drop pieceMost piece)) ∙ append-assoc (take pieceMost piece) (drop pieceMost piece) more
 
 -- a line read by a call on a piece of it, and then whole
 pub by-call : (hold : Hold) (piece more : List ℕ) (r : Scanned) → Scans hold piece r
-    → line (held hold ++ (piece ++ more)) ≡ counted r (line (held (r .hold) ++ drop (r .taken) (piece ++ more)))
+    → line (held hold ++ (piece ++ more)) ≡ counted r (line (held (r .hold) ++ drop (r .counts .taken) (piece ++ more)))
 unfolding scannedOf
 by-call hold piece more r e =
-    let o = scan (held hold) (take 65535 piece) in
-    let a = scanned (held hold) (take 65535 piece) (drop 65535 piece ++ more) in
+    let o = scan (held hold) (take pieceMost piece) in
+    let a = scanned (held hold) (take pieceMost piece) (drop pieceMost piece ++ more) in
     let b : line (held hold ++ (piece ++ more)) ≡ noted o (line (o .hold ++ drop (o .taken) (piece ++ more))) = rw (split piece more) a in
     let rest = drop (o .taken) (piece ++ more) in
     b ∙ sym (counted-noted o (line (o .hold ++ rest))) ∙ ap (λ (h : List ℕ). counted (scannedOf o) (line (h ++ rest))) (sym (held-holdOf (o .hold)))
-    ∙ sym (ap (λ (x : Scanned). counted x (line (held (x .hold) ++ drop (x .taken) (piece ++ more)))) e)
+    ∙ sym (ap (λ (x : Scanned). counted x (line (held (x .hold) ++ drop (x .counts .taken) (piece ++ more)))) e)
 
 waiting-ending : (e : Ending) → isPacket e ≡ false → e ≡ waiting
 waiting-ending waiting p = refl
 waiting-ending (packet k d) p = let z : _≡_ {A = ℕ} 0 1 = cc in absurd (omega arith)
 
 -- a last call leaves nothing to read
-nothing-left : (hold : Hold) (bytes : List ℕ) (r : Scanned) → Scans hold bytes r → r .taken ≡ length bytes → r .found ≡ false
-    → line (held (r .hold) ++ drop (r .taken) (bytes ++ [])) ≡ nothingMore (r .hold)
+nothing-left : (hold : Hold) (bytes : List ℕ) (r : Scanned) → Scans hold bytes r → r .counts .taken ≡ length bytes → r .found ≡ false
+    → line (held (r .hold) ++ drop (r .counts .taken) (bytes ++ [])) ≡ nothingMore (r .hold)
 unfolding scannedOf
 nothing-left hold bytes r e t f =
-    let o = scan (held hold) (take 65535 bytes) in
+    let o = scan (held hold) (take pieceMost bytes) in
     let w : o .ending ≡ waiting = waiting-ending (o .ending) (sym (ap (λ (x : Scanned). x .found) e) ∙ f) in
-    let a = all-taken (held hold) (take 65535 bytes) w in
+    let a = all-taken (held hold) (take pieceMost bytes) w in
     rw (t, append-nil, drop-length, append-nil, e, held-holdOf) (a .1)
 
 -- calls on the bytes from the hold, cut anywhere, come to the whole line
@@ -59,7 +59,7 @@ module _ (most : ℕ) (room : 1 ≤ most) (hold : Hold) (bytes : List ℕ) where
   piece = take most bytes
 
   abbrev outcome : Outcome
-  outcome = scan (held hold) (take 65535 piece)
+  outcome = scan (held hold) (take pieceMost piece)
 
   go-on : Calls most (holdOf (outcome .hold)) (drop (outcome .taken) bytes) (line (held (holdOf (outcome .hold)) ++ drop (outcome .taken) bytes)) → Calls most hold bytes (line (held hold ++ bytes))
   unfolding scannedOf
@@ -74,22 +74,22 @@ module _ (most : ℕ) (room : 1 ≤ most) (hold : Hold) (bytes : List ℕ) where
       → (e : Ending) → outcome .ending ≡ e → Calls most hold bytes (line (held hold ++ bytes))
   unfolding scannedOf
   ends-at f n ih waiting q =
-      let t = all-taken (held hold) (take 65535 piece) q .0 in
-      let i = call (held hold) (take 65535 piece) in
-      let k = rw q at (i .kept) in
-      let l : outcome .taken ≡ length (take 65535 piece) = t in
-      dite (decLe (length bytes) (min most 65535))
+      let t = all-taken (held hold) (take pieceMost piece) q .0 in
+      let i = call (held hold) (take pieceMost piece) in
+      let k = rw q at (i .adds-up) in
+      let l : outcome .taken ≡ length (take pieceMost piece) = t in
+      dite (decLe (length bytes) (min most pieceMost))
       (λ p.
       let same : piece ≡ bytes = take-all most bytes (omega arith) in
-      let all : outcome .taken ≡ length bytes = t ∙ rw (same, take-all 65535 bytes (omega arith)) in
+      let all : outcome .taken ≡ length bytes = t ∙ rw (same, take-all pieceMost bytes (omega arith)) in
       let c : Calls most hold bytes (counted (scannedOf outcome) (nothingMore (holdOf (outcome .hold)))) =
-      last (omega arith) (ap (λ (x : List ℕ). scannedOf (scan (held hold) (take 65535 x))) same) all (ap isPacket q) in
+      last (omega arith) (ap (λ (x : List ℕ). scannedOf (scan (held hold) (take pieceMost x))) same) all (ap isPacket q) in
       rw (whole-line c) at c)
-      (λ p. go-on (ih (holdOf (outcome .hold)) (drop (outcome .taken) bytes) (rw held-holdOf (omega (arith, length-drop (outcome .taken) bytes, length-take 65535 piece, length-take most bytes)))))
+      (λ p. go-on (ih (holdOf (outcome .hold)) (drop (outcome .taken) bytes) (rw held-holdOf (omega (arith, length-drop (outcome .taken) bytes, length-take pieceMost piece, length-take most bytes)))))
   ends-at f n ih (packet k d) q =
-      let i = call (held hold) (take 65535 piece) in
-      let j = rw q at (i .kept) in
-      go-on (ih (holdOf (outcome .hold)) (drop (outcome .taken) bytes) (rw held-holdOf (omega (arith, length-drop (outcome .taken) bytes, taken-at-most (held hold) (take 65535 piece), length-take 65535 piece, length-take most bytes))))
+      let i = call (held hold) (take pieceMost piece) in
+      let j = rw q at (i .adds-up) in
+      go-on (ih (holdOf (outcome .hold)) (drop (outcome .taken) bytes) (rw held-holdOf (omega (arith, length-drop (outcome .taken) bytes, taken-at-most (held hold) (take pieceMost piece), length-take pieceMost piece, length-take most bytes))))
 
 ends-in : (most : ℕ) → 1 ≤ most → (f : ℕ) (hold : Hold) (bytes : List ℕ) → length (held hold) + 2 * length bytes < f → Calls most hold bytes (line (held hold ++ bytes))
 ends-in most room zero hold bytes n = absurd (omega arith)

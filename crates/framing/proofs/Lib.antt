@@ -3,6 +3,7 @@ pub mod Composed
 pub mod Cuts
 pub mod Endings
 pub mod Lines
+pub mod Shares
 pub mod Steps
 pub mod Theorems
 pub mod Turns

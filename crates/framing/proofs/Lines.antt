@@ -16,7 +16,7 @@ use Rattle.packets.specs.Hold.{holdOf}
 use Rattle.packets.specs.Judge.{lengthByte, judge}
 use Rattle.packets.proofs.Judgements.{more-long, more-wrong, more-packet}
 use Rattle.framing.specs.Scan.{Ending, waiting, packet, Outcome, settleAt, settle, goOn, scan, scannedOf}
-use Rattle.framing.specs.Line.{Tally, nothingMore, onto, packetsIn, counted, lineAt, lineFrom, line}
+use Rattle.framing.specs.Line.{Tally, nothingMore, onto, packetsIn, counted, lineAt, lineBehind, line}
 
 abbrev packetsOf : Ending → List packets.Packet
 packetsOf waiting = []
@@ -34,8 +34,8 @@ counted-noted o t = ap (λ (l : List packets.Packet). onto l (o .dropped) (o .ch
     go waiting = refl
     go (packet k d) = refl
 
-passed : (k : ℕ) (w : List ℕ) → lineFrom k w ≡ line (drop k w)
-unfolding lineFrom
+passed : (k : ℕ) (w : List ℕ) → lineBehind k w ≡ line (drop k w)
+unfolding lineBehind
 passed zero [] = refl
 passed (suc k) [] = refl
 passed zero (b ∷ w) = refl
@@ -46,14 +46,14 @@ tail n b w = rw (add-three, add-four)
 
 settled-at : (b : ℕ) (h s : List ℕ) (j : Judgement) → judge (b ∷ h) ≡ j → line (h ++ s) ≡ noted (settle h) (line (settle h .hold ++ s))
     → line (b ∷ (h ++ s)) ≡ noted (settleAt j (b ∷ h) (settle h)) (line (settleAt j (b ∷ h) (settle h) .hold ++ s))
-unfolding settleAt lineFrom lineAt
+unfolding settleAt lineBehind lineAt
 settled-at b h s Wait e ih = simp zero-add
 settled-at b h s LongLength e ih = rw (more-long (b ∷ h) s e, ih) (simp (zero-add, add-assoc))
 settled-at b h s WrongChecksum e ih = let m = more-wrong (b ∷ h) s e in rw (m .0, m .1, ih) (simp (zero-add, add-assoc))
 settled-at b h s Packet e ih =
     let m = more-packet (b ∷ h) s e in
     let n = lengthByte (b ∷ h) in
-    let t : lineFrom (n + 3) (h ++ s) ≡ line (drop (n + 4) (b ∷ h) ++ s) = passed (n + 3) (h ++ s) ∙ ap line (tail n b (h ++ s) ∙ m .behind) in
+    let t : lineBehind (n + 3) (h ++ s) ≡ line (drop (n + 4) (b ∷ h) ++ s) = passed (n + 3) (h ++ s) ∙ ap line (tail n b (h ++ s) ∙ m .behind) in
     rw (m .judged, m .sized, t, m .kind, m .content)
 
 settled : (h s : List ℕ) → line (h ++ s) ≡ noted (settle h) (line (settle h .hold ++ s))
@@ -90,14 +90,14 @@ scanned h (b ∷ p) more =
 -- what waits brings nothing more
 waits-at : (b : ℕ) (h : List ℕ) (j : Judgement) (o : Outcome) → judge (b ∷ h) ≡ j → (o .ending ≡ waiting → line (o .hold) ≡ nothingMore (holdOf (o .hold)))
     → settleAt j (b ∷ h) o .ending ≡ waiting → line (settleAt j (b ∷ h) o .hold) ≡ nothingMore (holdOf (settleAt j (b ∷ h) o .hold))
-unfolding settleAt lineFrom lineAt
+unfolding settleAt lineBehind lineAt
 waits-at b h Wait o e ih w = rw e
 waits-at b h LongLength o e ih w = ih w
 waits-at b h WrongChecksum o e ih w = ih w
 waits-at b h Packet o e ih w = let z : _≡_ {A = ℕ} 0 1 = cc in absurd (omega arith)
 
 waits : (h : List ℕ) → settle h .ending ≡ waiting → line (settle h .hold) ≡ nothingMore (holdOf (settle h .hold))
-unfolding settle lineFrom
+unfolding settle lineBehind
 waits [] w = refl
 waits (b ∷ h) w = waits-at b h (judge (b ∷ h)) (settle h) refl (waits h) w
 

@@ -14,11 +14,11 @@ use Rattle.packets.proofs.Judgements as seen
 use Rattle.packets.proofs.Judgements.{Seen, see}
 use Rattle.framing.specs.declared.scan.Walked.{Walked}
 use Rattle.framing.specs.Scan.{still, after, found}
-use Rattle.framing.specs.Walk.{between, from, needed, Stands, Walks}
+use Rattle.framing.specs.Walk.{between, from, needed, Reaches, Walks}
 use Rattle.framing.proofs.Waits.{waits-for, more-wait}
 use Rattle.framing.proofs.Steps.{takes, ends-waiting, finds, drops-long, drops-wrong, after-after}
 
-pub first-turn : (bytes : List ℕ) (s e : ℕ) → s ≤ e → e ≤ s + 26 → e ≤ length bytes → Stands bytes s e s e 0
+pub first-turn : (bytes : List ℕ) (s e : ℕ) → s ≤ e → e ≤ s + 26 → e ≤ length bytes → Reaches bytes s e s e 0
 first-turn bytes s e a b c =
     let t : e - e ≡ 0 = omega arith in
     let d : s - s ≡ 0 = omega arith in
@@ -32,7 +32,7 @@ first-turn bytes s e a b c =
       work = omega arith;
     }
 
-module _ (bytes : List ℕ) (s₀ e₀ s e k : ℕ) (v : Stands bytes s₀ e₀ s e k) where
+module _ (bytes : List ℕ) (s₀ e₀ s e k : ℕ) (v : Reaches bytes s₀ e₀ s e k) where
   count : length (between s e bytes) ≡ e - s
   count = length-take-le (e - s) (drop s bytes) (omega (arith, length-drop s bytes, v .within))
 
@@ -71,7 +71,7 @@ module _ (bytes : List ℕ) (s₀ e₀ s e k : ℕ) (v : Stands bytes s₀ e₀ 
       let a : e - s - 1 ≡ e - (s + 1) = omega arith in
       sym (part 1 (e - s) (drop s l) (omega arith)) ∙ rw (a, drop-drop)
 
-  pub dropped-long : judge (between s e bytes) ≡ LongLength → Stands bytes s₀ e₀ (s + 1) e k
+  pub dropped-long : judge (between s e bytes) ≡ LongLength → Reaches bytes s₀ e₀ (s + 1) e k
   dropped-long j =
       let n = longs j in
       let d : s + 1 - s₀ ≡ s - s₀ + 1 = omega (arith, v .front) in
@@ -88,7 +88,7 @@ module _ (bytes : List ℕ) (s₀ e₀ s e k : ℕ) (v : Stands bytes s₀ e₀ 
         work = omega (arith, v .work, v .front);
       }
 
-  pub dropped-wrong : (n : ℕ) → judge (between s e bytes) ≡ WrongChecksum → n ≡ getD bytes (s + 1) 0 → Stands bytes s₀ e₀ (s + 1) e (k + (n + 2))
+  pub dropped-wrong : (n : ℕ) → judge (between s e bytes) ≡ WrongChecksum → n ≡ getD bytes (s + 1) 0 → Reaches bytes s₀ e₀ (s + 1) e (k + (n + 2))
   dropped-wrong n j f =
       let m = wrongs j in
       let q : lengthByte (between s e bytes) ≡ n = m .2 ∙ sym f in
@@ -117,7 +117,7 @@ module _ (bytes : List ℕ) (s₀ e₀ s e k : ℕ) (v : Stands bytes s₀ e₀ 
   waits-on : (m : ℕ) → judge (between s e bytes) ≡ Wait → e + m ≤ s + needed (between s e bytes) → (i : ℕ) → i < m → (l : List ℕ) → judge (between s e bytes ++ take i l) ≡ Wait
   waits-on m j n i p l = more-wait (between s e bytes) (take i l) j (omega (arith, length-take i l, count, v .order))
 
-  took-some : (m : ℕ) → judge (between s e bytes) ≡ Wait → e + m ≤ s + needed (between s e bytes) → e + m ≤ length bytes → Stands bytes s₀ e₀ s (e + m) k
+  took-some : (m : ℕ) → judge (between s e bytes) ≡ Wait → e + m ≤ s + needed (between s e bytes) → e + m ≤ length bytes → Reaches bytes s₀ e₀ s (e + m) k
   took-some m j n h =
       let b : e + m - e₀ ≡ e - e₀ + m = omega (arith, v .behind) in
       let w = waits-for (between s e bytes) j in
@@ -141,7 +141,7 @@ module _ (bytes : List ℕ) (s₀ e₀ s e k : ℕ) (v : Stands bytes s₀ e₀ 
     pub farther : e < length bytes → e < e′
     farther h = let w = waits-for (between s e bytes) j in omega (arith, count, v .order)
 
-    pub took : e < length bytes → Stands bytes s₀ e₀ s e′ k
+    pub took : e < length bytes → Reaches bytes s₀ e₀ s e′ k
     took h =
         let a : e + (e′ - e) ≡ e′ = omega (arith, farther h) in
         rw a at (took-some (e′ - e) j (omega arith) (omega arith))
@@ -164,7 +164,7 @@ module _ (bytes : List ℕ) (s₀ e₀ : ℕ) (r : Walked) (w : Walks bytes s₀
   -- a walk over all that comes, after d bytes dropped and k run through the checksum before it
   goes-on : (d k : ℕ) → after e₀ (d + s₀) k (from s₀ e₀ bytes) ≡ after (r .end) (d + r .start) (k + r .checked) (from (r .start) (r .end) bytes)
   goes-on d k =
-      let v = w .stands in
+      let v = w .reached in
       let t : e₀ + (r .end - e₀) ≡ r .end = omega (arith, v .behind) in
       let f : d + s₀ + (r .start - s₀) ≡ d + r .start = omega (arith, v .front) in
       let u : from s₀ e₀ bytes ≡ after (r .end - e₀) (r .start - s₀) (r .checked) (from (r .start) (r .end) bytes) = simp append-nil at (v .same []) in
@@ -174,4 +174,4 @@ module _ (bytes : List ℕ) (s₀ e₀ : ℕ) (r : Walked) (w : Walks bytes s₀
   on-to-packet d k f = goes-on d k ∙ ap (after (r .end) (d + r .start) (k + r .checked)) (finds (between (r .start) (r .end) bytes) (drop (r .end) bytes) (is-packet f))
 
   pub on-to-wait : (d k : ℕ) → r .found ≡ false → after e₀ (d + s₀) k (from s₀ e₀ bytes) ≡ after (r .end) (d + r .start) (k + r .checked) (still (between (r .start) (r .end) bytes))
-  on-to-wait d k f = goes-on d k ∙ ap (after (r .end) (d + r .start) (k + r .checked)) (used-up bytes s₀ e₀ (r .start) (r .end) (r .checked) (w .stands) (is-wait f) (w .used f))
+  on-to-wait d k f = goes-on d k ∙ ap (after (r .end) (d + r .start) (k + r .checked)) (used-up bytes s₀ e₀ (r .start) (r .end) (r .checked) (w .reached) (is-wait f) (w .used f))

@@ -34,17 +34,17 @@ unfoldable pub packetsIn : Scanned → List packets.Packet
 packetsIn r = when r .found then r .packet ∷ [] else []
 
 abbrev pub counted : Scanned → Tally → Tally
-counted r t = onto (packetsIn r) (r .dropped) (r .checked) t
+counted r t = onto (packetsIn r) (r .counts .dropped) (r .counts .checked) t
 
 -- Calls most hold bytes t: the bytes, cut anywhere into pieces of at most that many and given to calls that begin with the
 -- hold, come to t
 pub data Calls (most : ℕ) : Hold → List ℕ → Tally → Type 0 where
   -- the last call: all is taken and the answer is waiting
-  last : {hold : Hold} {bytes : List ℕ} {r : Scanned} → length bytes ≤ most → Scans hold bytes r → r .taken ≡ length bytes → r .found ≡ false
+  last : {hold : Hold} {bytes : List ℕ} {r : Scanned} → length bytes ≤ most → Scans hold bytes r → r .counts .taken ≡ length bytes → r .found ≡ false
       → Calls most hold bytes (counted r (nothingMore (r .hold)))
   -- a call on a piece, and then calls on what it has not taken and what comes behind
   next : {hold : Hold} (piece more : List ℕ) {r : Scanned} {t : Tally} → length piece ≤ most → Scans hold piece r
-      → Calls most (r .hold) (drop (r .taken) (piece ++ more)) t → Calls most hold (piece ++ more) (counted r t)
+      → Calls most (r .hold) (drop (r .counts .taken) (piece ++ more)) t → Calls most hold (piece ++ more) (counted r t)
 
 -- what becomes of the line w by the judgement at its oldest byte, where d is the tally of the line without that byte and
 -- p the tally of the line without the packet that it begins with
@@ -55,13 +55,13 @@ lineAt WrongChecksum w d p = onto [] 1 (lengthByte w + 2) d
 lineAt Packet w d p = onto (packetOf (getD w 0 0) (take (lengthByte w) (drop 2 w)) ∷ []) 0 (lengthByte w + 2) p
 
 -- the line w, whole, without its first k bytes
-unfoldable pub lineFrom : ℕ → List ℕ → Tally
-lineFrom k [] = nothingMore (holdOf [])
-lineFrom zero (b ∷ w) =
-    let d = lineFrom 0 w in
-    let p = lineFrom (lengthByte (b ∷ w) + 3) w in
+unfoldable pub lineBehind : ℕ → List ℕ → Tally
+lineBehind k [] = nothingMore (holdOf [])
+lineBehind zero (b ∷ w) =
+    let d = lineBehind 0 w in
+    let p = lineBehind (lengthByte (b ∷ w) + 3) w in
     lineAt (judge (b ∷ w)) (b ∷ w) d p
-lineFrom (suc k) (b ∷ w) = lineFrom k w
+lineBehind (suc k) (b ∷ w) = lineBehind k w
 
 abbrev pub line : List ℕ → Tally
-line w = lineFrom 0 w
+line w = lineBehind 0 w

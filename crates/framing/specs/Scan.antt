@@ -82,11 +82,13 @@ scannedOf o =
       hold = holdOf (o .hold);
       found = isPacket (o .ending);
       packet = packetAt (o .ending);
-      taken = o .taken;
-      dropped = o .dropped;
-      checked = o .checked;
+      counts = record { taken = o .taken; dropped = o .dropped; checked = o .checked };
     }
 
--- what `scan` promises; of a piece above 65,535 bytes a call sees the first 65,535
+-- of a longer piece a call sees so many bytes
+abbrev pub pieceMost : ℕ
+pieceMost = 65535
+
+-- what `scan` promises
 abbrev pub Scans : Hold → List ℕ → Scanned → Type 0
-Scans hold piece r = r ≡ scannedOf (scan (held hold) (take 65535 piece))
+Scans hold piece r = r ≡ scannedOf (scan (held hold) (take pieceMost piece))

@@ -7,6 +7,7 @@ use mathlib.Core.List.{List, _++_}
 use lib.ListN.{length, take, drop}
 use Rattle.lists.specs.Tests.{when_then_else_, _<?_}
 use Rattle.packets.specs.declared.judge.Judgement.the-variants.{Wait, Packet}
+use Rattle.packets.specs.Hold.{heldMost}
 use Rattle.packets.specs.Judge.{lengthByte, judge}
 use Rattle.framing.specs.declared.scan.Walked.{Walked}
 use Rattle.framing.specs.Scan.{Outcome, after, scan}
@@ -25,17 +26,17 @@ needed h = when length h <? 2 then 2 else lengthByte h + 4
 
 -- a walk that held the bytes from s₀ up to e₀ holds those from s up to e, with k run through the checksum; what comes of the
 -- call is the same, whatever comes behind the bytes
-pub record Stands (bytes : List ℕ) (s₀ e₀ s e k : ℕ) : Type 0 where
+pub record Reaches (bytes : List ℕ) (s₀ e₀ s e k : ℕ) : Type 0 where
   pub same : (more : List ℕ) → from s₀ e₀ (bytes ++ more) ≡ after (e - e₀) (s - s₀) k (from s e (bytes ++ more))
   pub front : s₀ ≤ s
   pub order : s ≤ e
   pub behind : e₀ ≤ e
   pub within : e ≤ length bytes
-  pub room : e ≤ s + 26
+  pub room : e ≤ s + (heldMost + 1)
   pub work : k ≤ 24 * (s - s₀)
 
 -- what `walk` promises: it ends at a packet, or at a wait where the bytes are used up
 pub record Walks (bytes : List ℕ) (s₀ e₀ : ℕ) (r : Walked) : Type 0 where
-  pub stands : Stands bytes s₀ e₀ (r .start) (r .end) (r .checked)
+  pub reached : Reaches bytes s₀ e₀ (r .start) (r .end) (r .checked)
   pub judged : judge (between (r .start) (r .end) bytes) ≡ (when r .found then Packet else Wait)
   pub used : r .found ≡ false → r .end ≡ length bytes

@@ -4,21 +4,35 @@ ghost use mathlib.Core.Path.{_≡_};
 ghost use Prim.Native.Nat.{_+_, _≤_};
 ghost use lib.ListN.{length, take, drop};
 ghost use Rattle.packets.specs.Judge.{lengthByte};
-ghost use Rattle.packets.specs.Hold.{held, holdOf};
-ghost use Rattle.framing.specs.Scan.{still, after, found, scan, scannedOf, Scans};
+ghost use Rattle.packets.specs.Packet.{contentMost};
+ghost use Rattle.packets.specs.Hold.{heldMost, held, holdOf};
+ghost use Rattle.framing.specs.Scan.{still, after, found, scan, scannedOf, pieceMost, Scans};
 ghost use Rattle.framing.specs.Walk.{needed, from, Walks};
+use packets::hold::HELD;
 use packets::hold::Hold;
 use packets::judge::Judgement;
+use packets::packet::CONTENT;
 use packets::packet::Packet;
+
+// Of a longer piece a call sees so many bytes.
+pub const LONGEST: usize = 65535;
+
+// Room for the bytes of earlier calls, and behind them as many of the piece.
+const WINDOW: usize = 2 * HELD;
+
+// The bytes that a call took from the piece, dropped from the line and ran through the checksum.
+pub struct Counts {
+    pub taken: usize,
+    pub dropped: usize,
+    pub checked: usize,
+}
 
 // What a call finds and reports. Where no packet was found, the packet is all zeros.
 pub struct Scanned {
     pub hold: Hold,
     pub found: bool,
     pub packet: Packet,
-    pub taken: usize,
-    pub dropped: usize,
-    pub checked: usize,
+    pub counts: Counts,
 }
 
 // Where a walk over bytes ends: those from `start` up to `end` are held, a packet at their front or waiting for more.
@@ -31,10 +45,10 @@ struct Walked {
 
 // The held bytes, for the next call.
 fn kept(window: &[u8]) -> Hold
-    requires { ⌜ length (now window) ≤ 25 ⌝ }
+    requires { ⌜ length (now window) ≤ heldMost ⌝ }
     ensures { λ r. ⌜ r ≡ holdOf (now (window .entry)) ⌝ }
 {
-    let mut bytes = [0u8; 25];
+    let mut bytes = [0u8; HELD];
     lists::paste(&mut bytes, 0, window);
     Hold {
         bytes,
@@ -44,12 +58,12 @@ fn kept(window: &[u8]) -> Hold
 
 // A packet at the front of the held bytes, after `taken` bytes taken, `dropped` dropped and `checked` run through the checksum.
 fn with_packet(window: &[u8], taken: usize, dropped: usize, checked: usize) -> Scanned
-    requires { ⌜ (lengthByte (now window) ≤ 22) × (lengthByte (now window) + 4 ≤ length (now window)) × (length (now window) ≤ 26) × (checked ≤ 2000000) ⌝ }
+    requires { ⌜ (lengthByte (now window) ≤ contentMost) × (lengthByte (now window) + 4 ≤ length (now window)) × (length (now window) ≤ heldMost + 1) × (checked ≤ 2000000) ⌝ }
     ensures { λ r. ⌜ r ≡ scannedOf (after taken dropped checked (found (now (window .entry)))) ⌝ }
 {
     let n = lists::wide(window[1]);
     let end = n + 2;
-    let mut content = [0u8; 22];
+    let mut content = [0u8; CONTENT];
     lists::paste(&mut content, 0, &window[2..end]);
     let hold = kept(&window[n + 4..]);
     let packet = Packet {
@@ -57,34 +71,40 @@ fn with_packet(window: &[u8], taken: usize, dropped: usize, checked: usize) -> S
         length: n,
         content,
     };
+    let counts = Counts {
+        taken,
+        dropped,
+        checked: checked + end,
+    };
     Scanned {
         hold,
         found: true,
         packet,
-        taken,
-        dropped,
-        checked: checked + end,
+        counts,
     }
 }
 
 // The call ends waiting.
 fn waiting(window: &[u8], taken: usize, dropped: usize, checked: usize) -> Scanned
-    requires { ⌜ length (now window) ≤ 25 ⌝ }
+    requires { ⌜ length (now window) ≤ heldMost ⌝ }
     ensures { λ r. ⌜ r ≡ scannedOf (after taken dropped checked (still (now (window .entry)))) ⌝ }
 {
     let hold = kept(window);
     let packet = Packet {
         kind: 0,
         length: 0,
-        content: [0u8; 22],
+        content: [0u8; CONTENT],
+    };
+    let counts = Counts {
+        taken,
+        dropped,
+        checked,
     };
     Scanned {
         hold,
         found: false,
         packet,
-        taken,
-        dropped,
-        checked,
+        counts,
     }
 }
 
@@ -101,7 +121,7 @@ fn wanted(held: &[u8]) -> usize
 // Judges the bytes from `first` up to `next`, which are held. A drop moves the front and a wait the end, so that nothing is
 // copied. The walk ends at a packet, or at a wait where the bytes are used up.
 fn walk(bytes: &[u8], first: usize, next: usize) -> Walked
-    requires { ⌜ (first ≤ next) × (next ≤ first + 26) × (next ≤ length (now bytes)) × (length (now bytes) ≤ 65535) ⌝ }
+    requires { ⌜ (first ≤ next) × (next ≤ first + (heldMost + 1)) × (next ≤ length (now bytes)) × (length (now bytes) ≤ pieceMost) ⌝ }
     ensures { λ r. ⌜ Walks (now (bytes .entry)) first next r ⌝ }
 {
     let mut start = first;
@@ -143,7 +163,7 @@ fn walk(bytes: &[u8], first: usize, next: usize) -> Walked
 
 // The rest of a call that holds bytes of the piece alone, those from `first` up to `next`, with `dropped` dropped before them.
 fn scan_rest(piece: &[u8], first: usize, next: usize, dropped: usize, checked: usize) -> Scanned
-    requires { ⌜ (first ≤ next) × (next ≤ first + 26) × (next ≤ length (now piece)) × (length (now piece) ≤ 65535) × (dropped ≤ 25) × (checked ≤ 2000) ⌝ }
+    requires { ⌜ (first ≤ next) × (next ≤ first + (heldMost + 1)) × (next ≤ length (now piece)) × (length (now piece) ≤ pieceMost) × (dropped ≤ heldMost) × (checked ≤ 2000) ⌝ }
     ensures { λ r. ⌜ r ≡ scannedOf (after next (dropped + first) checked (from first next (now (piece .entry)))) ⌝ }
 {
     let w = walk(piece, first, next);
@@ -169,7 +189,7 @@ fn scan_rest(piece: &[u8], first: usize, next: usize, dropped: usize, checked: u
 // A call that holds the first `count` bytes of the window, which are of earlier calls; the piece's first 25 stand behind them
 // in it. Of more than 25 bytes none waits, so a walk that goes on behind the window holds bytes of the piece alone.
 fn scan_window(window: &[u8], count: usize, piece: &[u8]) -> Scanned
-    requires { ⌜ (drop count (now window) ≡ take 25 (now piece)) × (count ≤ length (now window)) × (count ≤ 25) × (length (now piece) ≤ 65535) ⌝ }
+    requires { ⌜ (drop count (now window) ≡ take heldMost (now piece)) × (count ≤ length (now window)) × (count ≤ heldMost) × (length (now piece) ≤ pieceMost) ⌝ }
     ensures { λ r. ⌜ r ≡ scannedOf (scan (take count (now (window .entry))) (now (piece .entry))) ⌝ }
 {
     let w = walk(window, 0, count);
@@ -186,25 +206,24 @@ fn scan_window(window: &[u8], count: usize, piece: &[u8]) -> Scanned
 }
 
 fn scan_part(hold: Hold, piece: &[u8]) -> Scanned
-    requires { ⌜ length (now piece) ≤ 65535 ⌝ }
+    requires { ⌜ length (now piece) ≤ pieceMost ⌝ }
     ensures { λ r. ⌜ r ≡ scannedOf (scan (held hold) (now (piece .entry))) ⌝ }
 {
     let bytes = hold.bytes;
-    let count = lists::at_most(hold.count, 25);
+    let count = lists::at_most(hold.count, HELD);
     if count == 0 {
         return scan_rest(piece, 0, 0, 0, 0);
     }
-    let near = lists::at_most(piece.len(), 25);
-    let mut window = [0u8; 50];
+    let near = lists::at_most(piece.len(), HELD);
+    let mut window = [0u8; WINDOW];
     lists::paste(&mut window, 0, &bytes);
     lists::paste(&mut window, count, &piece[..near]);
     scan_window(&window[..count + near], count, piece)
 }
 
-// Of a piece above 65,535 bytes a call sees the first 65,535.
 pub fn scan(hold: Hold, piece: &[u8]) -> Scanned
     ensures { λ r. ⌜ Scans hold (now (piece .entry)) r ⌝ }
 {
-    let n = lists::at_most(piece.len(), 65535);
+    let n = lists::at_most(piece.len(), LONGEST);
     scan_part(hold, &piece[..n])
 }

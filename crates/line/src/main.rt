@@ -1,40 +1,103 @@
 // The line program: host bytes on standard input, a line of text a packet on standard output.
-mod text;
-mod watch;
+ghost use mathlib.Core.Path.{_≡_};
+ghost use mathlib.Core.Bool.{false};
+ghost use Rattle.tally.specs.Session.{goesOn};
+
+mod lines;
 
 use libc::STDERR_FILENO;
-use libc::STDIN_FILENO;
-use watch::Watch;
+use libc::STDOUT_FILENO;
+use session::sizes::FAULTS;
+use session::sizes::LIST;
+use session::sizes::PICTURE;
+use session::sizes::REPLY;
+use session::sizes::SAID;
+use session::sizes::STATE;
+use tally::kept::Session;
+use tally::kept::found;
+use tally::kept::going;
+use tally::kept::lost;
 
-// Reads once and hears what came. A failed read is told on standard error, and is not taken for the end of the input.
-fn read_some(w: Watch, font: &[u8]) -> Watch {
-    let mut piece = io::buffer();
-    let got = libc::read(STDIN_FILENO, &mut piece);
-    if got < 0 {
-        io::write_all(STDERR_FILENO, b"line: standard input cannot be read\n");
-        return watch::ended(w);
+// Writes the front of a buffer; whether all of it was written. A failed write is told on standard error.
+fn put(out: &[u8], length: usize) -> bool {
+    let done = tally::text::put(STDOUT_FILENO, out, length);
+    if !done {
+        io::write_all(STDERR_FILENO, b"line: standard output cannot be written\n");
     }
-    if got == 0 {
-        return watch::ended(w);
-    }
-    let n = io::count(got, &piece);
-    watch::hear(w, &piece[..n], font)
+    done
 }
 
-// A proved loop has to end, and nothing says that the input does: the turns are counted down from a number that no run uses up.
-fn read_all(start: Watch, font: &[u8]) -> Watch {
-    let mut w = start;
-    let mut turns = u64::MAX;
-    while turns > 0 && !w.over {
-        w = read_some(w, font);
-        turns -= 1;
+// The line of the packet that the last call found; the session ends where it cannot be written.
+fn told(s: Session) -> Session
+    ensures { λ r. ⌜ r .steps ≡ s .steps ⌝ }
+{
+    if !found(s) {
+        return s;
     }
-    w
+    let mut out = [0u8; 200];
+    let n = lines::event(&mut out, s);
+    if put(&out, n) {
+        return s;
+    }
+    lost(s)
+}
+
+// The steps of a session, to its end.
+fn hear(
+    piece: &mut [u8],
+    state: &mut [u8],
+    picture: &mut [u8],
+    font: &[u8],
+    list: &mut [u8],
+    reply: &mut [u8],
+    faults: &mut [u8],
+    said: &mut [u8; 16],
+) -> Session
+    ensures { λ r. ⌜ goesOn r ≡ false ⌝ }
+{
+    let mut s = tally::kept::started();
+    while going(s) {
+        s = told(session::step(s, piece, state, picture, font, list, reply, faults, said));
+    }
+    s
+}
+
+// A failed read is told on standard error, and the last line is written, unless output was lost.
+fn finish(s: Session, state: &[u8]) {
+    if s.failed {
+        io::write_all(STDERR_FILENO, b"line: standard input cannot be read\n");
+    }
+    if s.lost {
+        return;
+    }
+    let mut out = [0u8; 200];
+    let n = lines::end(&mut out, s.sums, state);
+    put(&out, n);
 }
 
 fn main() {
-    let font = watch::program_font();
-    text::heading();
-    let w = read_all(watch::start(&font), &font);
-    watch::last_line(w);
+    let heading = b"event offset kind command reason place cells\n";
+    if !put(heading, heading.len()) {
+        return;
+    }
+    let font = session::font::program_font();
+    let mut state = [0u8; STATE];
+    let mut picture = [0u8; PICTURE];
+    let mut said = [0u8; SAID];
+    naupelys::naupelys_power_on(&mut state, &mut picture, &font, &mut said);
+    let mut piece = io::buffer();
+    let mut list = [0u8; LIST];
+    let mut reply = [0u8; REPLY];
+    let mut faults = [0u8; FAULTS];
+    let s = hear(
+        &mut piece,
+        &mut state,
+        &mut picture,
+        &font,
+        &mut list,
+        &mut reply,
+        &mut faults,
+        &mut said,
+    );
+    finish(s, &state);
 }

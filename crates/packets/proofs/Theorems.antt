@@ -5,10 +5,10 @@ use Prim.Native.Nat.{ℕ}
 use Rattle.lists.specs.Promise.{Determined}
 use Rattle.lists.proofs.Theorems.{one, and}
 use Rattle.packets.specs.Packet.{Composes}
-use Rattle.packets.specs.Hold.{Empties}
+use Rattle.packets.specs.Hold.{HoldsNothing}
 use Rattle.packets.specs.Judge.{Judges}
 
-pub empty-determined : Determined Empties
+pub empty-determined : Determined HoldsNothing
 empty-determined = one _
 
 pub judge-determined : (h : List ℕ) → Determined (Judges h)

@@ -6,13 +6,17 @@ use lib.ListN.{length, take}
 use Rattle.packets.specs.declared.hold.Hold.{Hold}
 use Rattle.packets.specs.Packet.{padded}
 
+-- "at most 25 bytes are held"
+abbrev pub heldMost : ℕ
+heldMost = 25
+
 abbrev pub held : Hold → List ℕ
 held hold = take (hold .count) (hold .bytes)
 
 -- zeros stand behind the count
 abbrev pub holdOf : List ℕ → Hold
-holdOf h = record { bytes = padded 25 h; count = length h }
+holdOf h = record { bytes = padded heldMost h; count = length h }
 
 -- what `empty` promises
-abbrev pub Empties : Hold → Type 0
-Empties r = r ≡ holdOf []
+abbrev pub HoldsNothing : Hold → Type 0
+HoldsNothing r = r ≡ holdOf []

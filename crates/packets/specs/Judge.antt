@@ -8,6 +8,7 @@ use Rattle.lists.specs.Tests.{when_then_else_, _<?_, _=?_}
 use Rattle.packets.specs.declared.judge.Judgement.{Judgement}
 use Rattle.packets.specs.declared.judge.Judgement.the-variants.{Wait, LongLength, WrongChecksum, Packet}
 use Rattle.fcs.specs.Fcs.{checksum}
+use Rattle.packets.specs.Packet.{contentMost}
 
 -- the n of "type, length n"
 abbrev pub lengthByte : List ℕ → ℕ
@@ -22,7 +23,7 @@ checksumRight h =
 unfoldable pub judge : List ℕ → Judgement
 judge h =
     when length h <? 2 then Wait
-    else when 22 <? lengthByte h then LongLength
+    else when contentMost <? lengthByte h then LongLength
     else when length h <? lengthByte h + 4 then Wait
     else when checksumRight h then Packet
     else WrongChecksum

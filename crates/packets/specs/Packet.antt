@@ -9,6 +9,14 @@ use Rattle.lists.specs.Runs.{front}
 use Rattle.packets.specs.declared.packet.Packet.{Packet}
 use Rattle.fcs.specs.Fcs.{checksum}
 
+-- "length n (0 to 22)"
+abbrev pub contentMost : ℕ
+contentMost = 22
+
+-- a buffer of so many bytes holds any packet
+abbrev pub replySize : ℕ
+replySize = contentMost + 4
+
 -- what the checksum is over: "type, length and data"
 abbrev pub covered : ℕ → List ℕ → List ℕ
 covered kind content = kind ∷ length content ∷ content
@@ -26,7 +34,7 @@ padded n run = front run (replicate n 0)
 
 -- the packet as the code has it
 abbrev pub packetOf : ℕ → List ℕ → Packet
-packetOf kind content = record { kind = kind; length = length content; content = padded 22 content }
+packetOf kind content = record { kind = kind; length = length content; content = padded contentMost content }
 
 -- the data bytes of a packet as the code has it
 abbrev pub contentOf : Packet → List ℕ
@@ -34,7 +42,7 @@ contentOf p = take (p .length) (p .content)
 
 -- a packet can be composed of at most 22 data bytes, into a buffer of 26
 abbrev pub composable : List ℕ → List ℕ → Bool
-composable out content = (length out =? 26) && (length content ≤? 22)
+composable out content = (length out =? replySize) && (length content ≤? contentMost)
 
 -- the length that is written, 0 where nothing is
 unfoldable pub composedLength : List ℕ → List ℕ → ℕ

@@ -3,6 +3,8 @@ ghost use mathlib.Core.Path.{_≡_};
 ghost use Prim.Native.Nat.{_+_, _<_, _≤_};
 ghost use lib.ListN.{length};
 ghost use Rattle.packets.specs.Judge.{lengthByte, checksumRight, Judges};
+ghost use Rattle.packets.specs.Packet.{contentMost};
+use crate::packet::CONTENT;
 
 // What becomes of the oldest byte: more must come first, it goes because the length is above 22 or because the
 // checksum is wrong, or a packet begins with it.
@@ -15,7 +17,7 @@ pub enum Judgement {
 
 // Whether the checksum behind the n data bytes is right.
 fn checksum_right(held: &[u8], n: usize) -> bool
-    requires { ⌜ (n ≡ lengthByte (now held)) × (n ≤ 22) × (n + 4 ≤ length (now held)) ⌝ }
+    requires { ⌜ (n ≡ lengthByte (now held)) × (n ≤ contentMost) × (n + 4 ≤ length (now held)) ⌝ }
     ensures { λ r. ⌜ r ≡ checksumRight (now (held .entry)) ⌝ }
 {
     let end = n + 2;
@@ -32,7 +34,7 @@ pub fn judge(held: &[u8]) -> Judgement
         return Judgement::Wait;
     }
     let n = lists::wide(held[1]);
-    if 22 < n {
+    if CONTENT < n {
         return Judgement::LongLength;
     }
     if held.len() < n + 4 {

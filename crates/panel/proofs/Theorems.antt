@@ -7,21 +7,29 @@ use Rattle.lists.specs.Promise.{Determined}
 use Rattle.lists.specs.Tests.{all}
 use Rattle.lists.proofs.Theorems.{one}
 use Rattle.table.specs.Table.{configAllowed}
+use Rattle.panel.specs.declared.state.Cursor.{Cursor}
+use Rattle.panel.specs.declared.state.Dials.{Dials}
+use Rattle.panel.specs.declared.state.Masks.{Masks}
+use Rattle.panel.specs.declared.state.Keys.{Keys}
+use Rattle.panel.specs.declared.state.Pins.{Pins}
 use Rattle.panel.specs.declared.state.Panel.{Panel}
 use Rattle.panel.specs.State.{factorySettings, poweredOn, Starts}
-use Rattle.panel.specs.Ranges.{numbersInRange, settingsInRange, keysInRange, inRanges, PartsRange, Ranges}
+use Rattle.panel.specs.Ranges.{allOf, cursorInRange, dialsInRange, masksInRange, partsInRange, keysInRange, pinsInRange, inRanges, PartsRange, InputsRange, Ranges}
 
 -- The state at power-on is in its ranges: antt computes the test.
 pub power-on-in-range : inRanges poweredOn ≡ true
-unfolding inRanges poweredOn factorySettings settingsInRange numbersInRange keysInRange all configAllowed
+unfolding inRanges poweredOn factorySettings partsInRange cursorInRange dialsInRange masksInRange keysInRange pinsInRange all allOf configAllowed
 power-on-in-range = refl
 
 -- For each public function, any two results that its promise allows are equal.
 pub powered-on-determined : Determined Starts
 powered-on-determined = one _
 
-pub parts-in-range-determined : (column row style contrast backlight press release : ℕ) (glyphs levels configs : List ℕ) → Determined (PartsRange column row style contrast backlight press release glyphs levels configs)
-parts-in-range-determined column row style contrast backlight press release glyphs levels configs = one _
+pub parts-in-range-determined : (glyphs : List ℕ) (cursor : Cursor) (dials : Dials) (masks : Masks) (levels configs : List ℕ) → Determined (PartsRange glyphs cursor dials masks levels configs)
+parts-in-range-determined glyphs cursor dials masks levels configs = one _
+
+pub inputs-in-range-determined : (k : Keys) (p : Pins) → Determined (InputsRange k p)
+inputs-in-range-determined k p = one _
 
 pub in-ranges-determined : (p : Panel) → Determined (Ranges p)
 in-ranges-determined p = one _

@@ -2,61 +2,72 @@
 -- edge bit too), is one that the commands and events below can set; held bytes, text, flash and the unfiled number are free."
 use Prim.Native.Nat.{ℕ}
 use mathlib.Core.Path.{_≡_}
-use mathlib.Core.Bool.{Bool, _&&_}
-use mathlib.Core.List.{List, []}
+use mathlib.Core.Bool.{Bool, true, _&&_}
+use mathlib.Core.List.{List, [], _∷_}
 use Rattle.lists.specs.Tests.{_≤?_, all, allAtMost}
 use Rattle.table.specs.Table.{configAllowed}
+use Rattle.panel.specs.declared.state.Line.{Line}
+use Rattle.panel.specs.declared.state.Cursor.{Cursor}
+use Rattle.panel.specs.declared.state.Dials.{Dials}
+use Rattle.panel.specs.declared.state.Masks.{Masks}
 use Rattle.panel.specs.declared.state.Settings.{Settings}
 use Rattle.panel.specs.declared.state.Keys.{Keys}
+use Rattle.panel.specs.declared.state.Pins.{Pins}
 use Rattle.panel.specs.declared.state.Panel.{Panel}
+
+-- all of the tests, the first one first
+unfoldable pub allOf : Bool → List Bool → Bool
+allOf ok [] = ok
+allOf ok (b ∷ bs) = allOf (ok && b) bs
+
+-- command 11
+unfoldable pub cursorInRange : Cursor → Bool
+cursorInRange c = (c .column ≤? 19) && (c .row ≤? 3)
+
+-- commands 12, 13 and 14
+unfoldable pub dialsInRange : Dials → Bool
+dialsInRange d = allOf true ((d .style ≤? 4) ∷ (d .contrast ≤? 254) ∷ (d .backlight ≤? 100) ∷ [])
+
+-- command 23
+unfoldable pub masksInRange : Masks → Bool
+masksInRange m = (m .press ≤? 63) && (m .release ≤? 63)
 
 abbrev pub configsInRange : List ℕ → Bool
 configsInRange configs = all configAllowed configs
 
--- commands 11, 12, 13, 14 and 23
-unfoldable pub numbersInRange : Settings → Bool
-numbersInRange s =
-    (s .column ≤? 19)
-    && (s .row ≤? 3)
-    && (s .style ≤? 4)
-    && (s .contrast ≤? 254)
-    && (s .backlight ≤? 100)
-    && (s .press ≤? 63)
-    && (s .release ≤? 63)
+-- the same with the rows of command 9 and the pins of command 34
+unfoldable pub partsInRange : List ℕ → Cursor → Dials → Masks → List ℕ → List ℕ → Bool
+partsInRange glyphs cursor dials masks levels configs =
+    allAtMost 63 glyphs && cursorInRange cursor && dialsInRange dials && masksInRange masks && allAtMost 100 levels && configsInRange configs
 
--- commands 9 and 34 too
-unfoldable pub settingsInRange : Settings → Bool
-settingsInRange s = numbersInRange s && allAtMost 63 (s .glyphs) && allAtMost 100 (s .levels) && configsInRange (s .configs)
+abbrev pub settingsInRange : Settings → Bool
+settingsInRange s = partsInRange (s .shown .glyphs) (s .cursor) (s .dials) (s .masks) (s .wires .levels) (s .wires .configs)
 
 -- six keys
 unfoldable pub keysInRange : Keys → Bool
 keysInRange k = (k .down ≤? 63) && (k .pressed ≤? 63) && (k .released ≤? 63)
 
-unfoldable pub inRanges : Panel → Bool
-inRanges p =
-    (p .hold .count ≤? 25) && settingsInRange (p .body .live) && settingsInRange (p .body .boot) && keysInRange (p .body .keys)
+-- pins 0 to 4
+unfoldable pub pinsInRange : Pins → Bool
+pinsInRange p = (p .last ≤? 31) && (p .fell ≤? 31) && (p .rose ≤? 31)
 
--- settings of these parts; as a text is free, the empty one stands for each
-abbrev pub settingsWith : ℕ → ℕ → ℕ → ℕ → ℕ → ℕ → ℕ → List ℕ → List ℕ → List ℕ → Settings
-settingsWith column row style contrast backlight press release glyphs levels configs =
-    record {
-      text = [];
-      glyphs = glyphs;
-      column = column;
-      row = row;
-      style = style;
-      contrast = contrast;
-      backlight = backlight;
-      press = press;
-      release = release;
-      levels = levels;
-      configs = configs;
-    }
+abbrev pub inputsInRange : Keys → Pins → Bool
+inputsInRange k p = keysInRange k && pinsInRange p
+
+-- "at most 25 bytes are held"
+abbrev pub lineInRange : Line → Bool
+lineInRange l = l .hold .count ≤? 25
+
+unfoldable pub inRanges : Panel → Bool
+inRanges p = lineInRange (p .line) && settingsInRange (p .body .live) && settingsInRange (p .body .boot) && inputsInRange (p .body .keys) (p .body .pins)
 
 -- what `parts_in_range` promises
-abbrev pub PartsRange : ℕ → ℕ → ℕ → ℕ → ℕ → ℕ → ℕ → List ℕ → List ℕ → List ℕ → Bool → Type 0
-PartsRange column row style contrast backlight press release glyphs levels configs r =
-    r ≡ settingsInRange (settingsWith column row style contrast backlight press release glyphs levels configs)
+abbrev pub PartsRange : List ℕ → Cursor → Dials → Masks → List ℕ → List ℕ → Bool → Type 0
+PartsRange glyphs cursor dials masks levels configs r = r ≡ partsInRange glyphs cursor dials masks levels configs
+
+-- what `inputs_in_range` promises
+abbrev pub InputsRange : Keys → Pins → Bool → Type 0
+InputsRange k p r = r ≡ inputsInRange k p
 
 -- what `in_ranges` promises
 abbrev pub Ranges : Panel → Bool → Type 0

@@ -1,12 +1,16 @@
--- How the panel starts.
+-- How the panel starts; dials, a body, a panel and its line with another part.
+use Prim.Native.Nat.{ℕ}
 use mathlib.Core.Path.{_≡_}
-use mathlib.Core.Bool.{false}
 use mathlib.Core.List.{[], _∷_}
 use lib.ListN.{replicate}
+use Rattle.packets.specs.declared.hold.Hold.{Hold}
 use Rattle.packets.specs.Hold.{holdOf}
+use Rattle.panel.specs.declared.state.Line.{Line}
+use Rattle.panel.specs.declared.state.Dials.{Dials}
 use Rattle.panel.specs.declared.state.Settings.{Settings}
 use Rattle.panel.specs.declared.state.Keys.{Keys}
 use Rattle.panel.specs.declared.state.Pins.{Pins}
+use Rattle.panel.specs.declared.state.Body.{Body}
 use Rattle.panel.specs.declared.state.Panel.{Panel}
 
 -- "Factory boot state, also at power-on: spaces, glyph rows 0, cursor 0,0, style 0, contrast 95, backlight 100, masks 63,
@@ -14,34 +18,57 @@ use Rattle.panel.specs.declared.state.Panel.{Panel}
 unfoldable pub factorySettings : Settings
 factorySettings =
     record {
-      text = replicate 80 32;
-      glyphs = replicate 64 0;
-      column = 0;
-      row = 0;
-      style = 0;
-      contrast = 95;
-      backlight = 100;
-      press = 63;
-      release = 63;
-      levels = replicate 13 0;
-      configs = 2 ∷ 3 ∷ 2 ∷ 2 ∷ 2 ∷ [];
+      shown = record { text = replicate 80 32; glyphs = replicate 64 0 };
+      cursor = record { column = 0; row = 0 };
+      dials = record { style = 0; contrast = 95; backlight = 100 };
+      masks = record { press = 63; release = 63 };
+      wires = record { levels = replicate 13 0; configs = 2 ∷ 3 ∷ 2 ∷ 2 ∷ 2 ∷ [] };
     }
 
 abbrev pub noKeys : Keys
 noKeys = record { down = 0; pressed = 0; released = 0 }
 
 abbrev pub lowPins : Pins
-lowPins = record { last = replicate 5 false; fell = replicate 5 false; rose = replicate 5 false }
+lowPins = record { last = 0; fell = 0; rose = 0 }
 
 -- "At power-on flash is zeros, keys up, pins low, poll bytes and edges clear, nothing held, unfiled 0."
 unfoldable pub poweredOn : Panel
 poweredOn =
     record {
-      hold = holdOf [];
+      line = record { hold = holdOf []; unfiled = 0 };
       body = record { live = factorySettings; boot = factorySettings; keys = noKeys; pins = lowPins; flash = replicate 16 0 };
-      unfiled = 0;
     }
 
 -- what `powered_on` promises
 abbrev pub Starts : Panel → Type 0
 Starts r = r ≡ poweredOn
+
+-- dials with another value
+abbrev pub withStyle : Dials → ℕ → Dials
+withStyle d style = record { style = style; contrast = d .contrast; backlight = d .backlight }
+
+abbrev pub withContrast : Dials → ℕ → Dials
+withContrast d contrast = record { style = d .style; contrast = contrast; backlight = d .backlight }
+
+abbrev pub withBacklight : Dials → ℕ → Dials
+withBacklight d backlight = record { style = d .style; contrast = d .contrast; backlight = backlight }
+
+-- a body and a panel with another part
+abbrev pub withLive : Body → Settings → Body
+withLive b s = record { live = s; boot = b .boot; keys = b .keys; pins = b .pins; flash = b .flash }
+
+abbrev pub withKeys : Body → Keys → Body
+withKeys b k = record { live = b .live; boot = b .boot; keys = k; pins = b .pins; flash = b .flash }
+
+abbrev pub withPins : Body → Pins → Body
+withPins b p = record { live = b .live; boot = b .boot; keys = b .keys; pins = p; flash = b .flash }
+
+abbrev pub withBody : Panel → Body → Panel
+withBody p b = record { line = p .line; body = b }
+
+-- the line's part with other held bytes, and with another unfiled number
+abbrev pub lineHolding : Line → Hold → Line
+lineHolding l hold = record { hold = hold; unfiled = l .unfiled }
+
+abbrev pub lineUnfiled : Line → ℕ → Line
+lineUnfiled l n = record { hold = l .hold; unfiled = n }

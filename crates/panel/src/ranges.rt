@@ -1,9 +1,32 @@
 // Whether a state is in its ranges.
 ghost use mathlib.Core.Path.{_≡_};
-ghost use Rattle.panel.specs.Ranges.{configsInRange, settingsInRange, keysInRange, PartsRange, Ranges};
+ghost use Rattle.panel.specs.Ranges.{configsInRange, cursorInRange, dialsInRange, masksInRange, settingsInRange, PartsRange, InputsRange, Ranges};
+use crate::state::Cursor;
+use crate::state::Dials;
 use crate::state::Keys;
+use crate::state::Masks;
 use crate::state::Panel;
+use crate::state::Pins;
 use crate::state::Settings;
+use packets::hold::HELD;
+
+fn cursor_in_range(c: Cursor) -> bool
+    ensures { λ r. ⌜ r ≡ cursorInRange c ⌝ }
+{
+    (c.column <= 19) & (c.row <= 3)
+}
+
+fn dials_in_range(d: Dials) -> bool
+    ensures { λ r. ⌜ r ≡ dialsInRange d ⌝ }
+{
+    (d.style <= 4) & (d.contrast <= 254) & (d.backlight <= 100)
+}
+
+fn masks_in_range(m: Masks) -> bool
+    ensures { λ r. ⌜ r ≡ masksInRange m ⌝ }
+{
+    (m.press <= 63) & (m.release <= 63)
+}
 
 fn configs_in_range(configs: &[u8]) -> bool
     ensures { λ r. ⌜ r ≡ configsInRange (now (configs .entry)) ⌝ }
@@ -19,56 +42,40 @@ fn configs_in_range(configs: &[u8]) -> bool
 
 // Whether settings of these parts are in their ranges. A text is free, so that none is asked for.
 pub fn parts_in_range(
-    column: u8,
-    row: u8,
-    style: u8,
-    contrast: u8,
-    backlight: u8,
-    press: u8,
-    release: u8,
     glyphs: &[u8],
+    cursor: Cursor,
+    dials: Dials,
+    masks: Masks,
     levels: &[u8],
     configs: &[u8],
 ) -> bool
-    ensures { λ r. ⌜ PartsRange column row style contrast backlight press release (now (glyphs .entry)) (now (levels .entry)) (now (configs .entry)) r ⌝ }
+    ensures { λ r. ⌜ PartsRange (now (glyphs .entry)) cursor dials masks (now (levels .entry)) (now (configs .entry)) r ⌝ }
 {
-    let numbers = (column <= 19)
-        & (row <= 3)
-        & (style <= 4)
-        & (contrast <= 254)
-        & (backlight <= 100)
-        & (press <= 63)
-        & (release <= 63);
     let rows = lists::all_at_most(glyphs, 63);
+    let places = cursor_in_range(cursor);
+    let turned = dials_in_range(dials);
+    let reported = masks_in_range(masks);
     let heights = lists::all_at_most(levels, 100);
     let drives = configs_in_range(configs);
-    numbers & rows & heights & drives
+    rows & places & turned & reported & heights & drives
 }
 
 fn settings_in_range(s: Settings) -> bool
     ensures { λ r. ⌜ r ≡ settingsInRange s ⌝ }
 {
-    let glyphs = s.glyphs;
-    let levels = s.levels;
-    let configs = s.configs;
-    parts_in_range(
-        s.column,
-        s.row,
-        s.style,
-        s.contrast,
-        s.backlight,
-        s.press,
-        s.release,
-        &glyphs,
-        &levels,
-        &configs,
-    )
+    let glyphs = s.shown.glyphs;
+    let levels = s.wires.levels;
+    let configs = s.wires.configs;
+    parts_in_range(&glyphs, s.cursor, s.dials, s.masks, &levels, &configs)
 }
 
-fn keys_in_range(k: Keys) -> bool
-    ensures { λ r. ⌜ r ≡ keysInRange k ⌝ }
+// Whether the bits of keys and pins are in their ranges: there are six keys and five such pins.
+pub fn inputs_in_range(k: Keys, p: Pins) -> bool
+    ensures { λ r. ⌜ InputsRange k p r ⌝ }
 {
-    (k.down <= 63) & (k.pressed <= 63) & (k.released <= 63)
+    let keys = (k.down <= 63) & (k.pressed <= 63) & (k.released <= 63);
+    let pins = (p.last <= 31) & (p.fell <= 31) & (p.rose <= 31);
+    keys & pins
 }
 
 pub fn in_ranges(p: Panel) -> bool
@@ -77,6 +84,6 @@ pub fn in_ranges(p: Panel) -> bool
     let b = p.body;
     let live = settings_in_range(b.live);
     let boot = settings_in_range(b.boot);
-    let keys = keys_in_range(b.keys);
-    (p.hold.count <= 25) & live & boot & keys
+    let inputs = inputs_in_range(b.keys, b.pins);
+    (p.line.hold.count <= HELD) & live & boot & inputs
 }

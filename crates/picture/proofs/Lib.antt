@@ -1,2 +1,7 @@
-pub mod LineCalls
+pub mod Changes
+pub mod Codes
+pub mod Paints
+pub mod Places
+pub mod Sizes
 pub mod Theorems
+pub mod Turns

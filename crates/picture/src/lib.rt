@@ -1,2 +1,3 @@
-// The calls of the whole panel, which change of the picture exactly what they list.
-pub mod calls;
+// Painting: what each cell draws, and the picture repainted where it changed.
+mod draw;
+pub mod repaint;

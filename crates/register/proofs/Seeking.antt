@@ -1,4 +1,4 @@
--- The search as the loop of `find` makes it: what the first i + 1 records show follows from what the first i show.
+-- The search as the loops of `find` and `find_in` make it: what the first i + 1 records show follows from what the first i show.
 use mathlib.Core.Path.{_≡_, refl}
 use mathlib.Core.List.{List}
 use Prim.Native.Nat.{ℕ, _+_}

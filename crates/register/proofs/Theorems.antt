@@ -6,9 +6,9 @@ use Rattle.lists.specs.Promise.{Determined}
 use Rattle.lists.proofs.Theorems.{one, and}
 use Rattle.filing.specs.declared.Record.{Record}
 use Rattle.filing.specs.declared.Refusal.{Refusal}
-use Rattle.register.specs.Run.{Counts, FilesIn, FilesBack}
+use Rattle.register.specs.Run.{CountsRecords, FilesIn, FilesBack}
 
-pub len-determined : (register : List Record) → Determined (Counts register)
+pub len-determined : (register : List Record) → Determined (CountsRecords register)
 len-determined register = one _
 
 pub file-determined : (register : List Record) (refused : Bool) (k : Refusal) (unfiled : ℕ)

@@ -26,8 +26,8 @@ abbrev pub seenAll : Refusal → List Record → ℕ → Seen
 seenAll k records n = record { known = firstRecord (isWith k) records n; free = firstRecord isFree records n }
 
 -- what `len` promises
-abbrev pub Counts : List Record → ℕ → Type 0
-Counts register r = r ≡ length register
+abbrev pub CountsRecords : List Record → ℕ → Type 0
+CountsRecords register r = r ≡ length register
 
 -- what `bump` promises of the unfiled number that it returns and of the register
 abbrev pub FilesAt : List Record → ℕ → Refusal → ℕ → ℕ → List Record → Type 0

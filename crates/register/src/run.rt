@@ -1,24 +1,25 @@
 // The functions over the run of records itself.
 ghost use mathlib.Core.Path.{_≡_};
 ghost use Rattle.filing.specs.Filing.{slot};
-ghost use Rattle.register.specs.Run.{Counts, FilesAt, FilesIn, FilesBack};
+ghost use Rattle.register.specs.Run.{CountsRecords, FilesAt, FilesIn, FilesBack};
 use crate::search::Seen;
 use crate::search::seen_more;
 use crate::search::slot_of;
+use filing::RECORDS;
 use filing::Record;
 use filing::Refusal;
 use filing::filed_in;
 use filing::unfiled_more;
 
-// A run of 64 records and the unfiled number after a filing.
+// A register and the unfiled number after a filing.
 pub struct FiledIn {
-    pub register: [Record; 64],
+    pub register: [Record; RECORDS],
     pub unfiled: u32,
 }
 
 // How many records the run has.
 pub fn len(register: &[Record]) -> usize
-    ensures { λ r. ⌜ Counts (now (register .entry)) r ⌝ }
+    ensures { λ r. ⌜ CountsRecords (now (register .entry)) r ⌝ }
 {
     register.len()
 }
@@ -61,14 +62,38 @@ pub fn file(register: &mut [Record], refused: bool, k: Refusal, unfiled: u32) ->
     }
 }
 
-// The same with the run by value.
-pub fn file_in(register: [Record; 64], refused: bool, k: Refusal, unfiled: u32) -> FiledIn
+// The record to file in, of a register by value; past the end where there is none.
+fn find_in(register: [Record; RECORDS], k: Refusal) -> usize
+    ensures { λ r. ⌜ r ≡ slot k register ⌝ }
+{
+    let mut s = Seen { known: 0, free: 0 };
+    for i in 0..RECORDS {
+        s = seen_more(s, i, k, register[i]);
+    }
+    slot_of(s, RECORDS)
+}
+
+// Files a refusal where there is one, in a register by value.
+pub fn file_in(register: [Record; RECORDS], refused: bool, k: Refusal, unfiled: u32) -> FiledIn
     ensures { λ r. ⌜ FilesBack register refused k unfiled r ⌝ }
 {
-    let mut records = register;
-    let left = file(&mut records, refused, k, unfiled);
+    if !refused {
+        return FiledIn { register, unfiled };
+    }
+    let i = find_in(register, k);
+    if i < RECORDS {
+        let q = filed_in(k, register[i], unfiled);
+        let fault = q.fault;
+        let mut records = register;
+        records[i] = fault;
+        return FiledIn {
+            register: records,
+            unfiled: q.unfiled,
+        };
+    }
+    let more = unfiled_more(unfiled);
     FiledIn {
-        register: records,
-        unfiled: left,
+        register,
+        unfiled: more,
     }
 }

@@ -9,10 +9,10 @@ use Rattle.table.specs.declared.Rule.{Rule}
 use Rattle.table.specs.declared.Rule.the-variants.{Free, UpTo, Glyph, Address, Place, Reboot, Pin}
 
 -- a row: the code, the shortest and the longest length allowed, the data allowed
-pub data Entry : Type 0 where
-  row : (code shortest longest : ℕ) → Rule → Entry
+pub data TableRow : Type 0 where
+  row : (code shortest longest : ℕ) → Rule → TableRow
 
-abbrev pub table : List Entry
+abbrev pub table : List TableRow
 table =
     row 0 0 22 Free
     ∷ row 1 0 0 Free
@@ -38,7 +38,7 @@ abbrev pub unknown : Row
 unknown = record { known = false; shortest = 0; longest = 0; rule = Free }
 
 -- the row of a code, or none
-unfoldable pub lookUp : ℕ → List Entry → Row
+unfoldable pub lookUp : ℕ → List TableRow → Row
 lookUp code [] = unknown
 lookUp code (row c shortest longest rule ∷ rows) =
     when code =? c then record { known = true; shortest = shortest; longest = longest; rule = rule } else lookUp code rows

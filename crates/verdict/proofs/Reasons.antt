@@ -17,7 +17,7 @@ use Rattle.verdict.specs.declared.verdict.Reason.the-variants.{UnknownCo
 use Rattle.verdict.specs.declared.verdict.Verdict.{Verdict}
 use Rattle.verdict.specs.declared.verdict.Verdict.the-variants.{Allowed, Refused}
 use Rattle.table.specs.Table.{table, lookUp}
-use Rattle.verdict.specs.Verdict.{firstOut, wholeVerdict, verdictBy, reasonNumber, Judges}
+use Rattle.verdict.specs.Verdict.{firstOut, wholeVerdict, verdictBy, reasonNumber, Rules}
 
 module _ (r : Row) (d : List ℕ) where
   -- neither reason 1 nor reason 2
@@ -77,5 +77,5 @@ late Reboot d = when-either Late _ _ _ (λ _. tt) (λ _. omega arith)
 late Pin d = tt
 
 -- A verdict that was seen is the one on the code whose row it is.
-pub judged : (code : ℕ) {r : Row} {d : List ℕ} {v : Verdict} → r ≡ lookUp code table → Seen r d v → Judges code d v
+pub judged : (code : ℕ) {r : Row} {d : List ℕ} {v : Verdict} → r ≡ lookUp code table → Seen r d v → Rules code d v
 judged code e s = rw (← e) (sym (shown _ _ s))

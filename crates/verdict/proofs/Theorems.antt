@@ -14,7 +14,7 @@ use Rattle.verdict.specs.declared.verdict.Reason.{Reason}
 use Rattle.verdict.specs.declared.verdict.Reason.the-variants.{DataOutOfRange}
 use Rattle.verdict.specs.declared.verdict.Verdict.the-variants.{Refused}
 use Rattle.table.specs.Table.{table, lookUp}
-use Rattle.verdict.specs.Verdict.{inRange, firstOut, Judges, Numbers}
+use Rattle.verdict.specs.Verdict.{inRange, firstOut, Rules, HasNumber}
 use Rattle.table.proofs.Rows.{longest-22}
 use Rattle.verdict.proofs.Reasons.{Seen, no-command, short, long, out, together, see, late}
 
@@ -29,7 +29,7 @@ at-first-out rule d h = (_, refl, h, not-true _ (found-holds _ (length d) h), λ
 
 module _ (code : ℕ) (content : List ℕ) where
   -- The place of a refusal is at most 24, so it fits a byte.
-  pub refused-place : (reason : Reason) (place : ℕ) → Judges code content (Refused reason place) → place ≤ 24
+  pub refused-place : (reason : Reason) (place : ℕ) → Rules code content (Refused reason place) → place ≤ 24
   refused-place reason place e = go (see (lookUp code table) content _ (sym e))
     where
       go : {reason : Reason} {place : ℕ} → Seen (lookUp code table) content (Refused reason place) → place ≤ 24
@@ -40,7 +40,7 @@ module _ (code : ℕ) (content : List ℕ) where
       go (together f h e) = (rw e at (late (lookUp code table .rule) content)) .1
 
   -- The place of reason 3 is that of the first data byte out of its range.
-  pub first-out-is-first : (place : ℕ) → Judges code content (Refused DataOutOfRange place) → AtFirstOut (lookUp code table .rule) content place
+  pub first-out-is-first : (place : ℕ) → Rules code content (Refused DataOutOfRange place) → AtFirstOut (lookUp code table .rule) content place
   first-out-is-first place e = go (see (lookUp code table) content _ (sym e))
     where
       go : {place : ℕ} → Seen (lookUp code table) content (Refused DataOutOfRange place) → AtFirstOut (lookUp code table .rule) content place
@@ -48,8 +48,8 @@ module _ (code : ℕ) (content : List ℕ) where
       go (together f h e) = absurd (omega (arith, (rw e at (late (lookUp code table .rule) content)) .0))
 
 -- For each public function, any two results that its promise allows are equal.
-pub verdict-on-determined : (code : ℕ) (content : List ℕ) → Determined (Judges code content)
+pub verdict-on-determined : (code : ℕ) (content : List ℕ) → Determined (Rules code content)
 verdict-on-determined code content = one _
 
-pub reason-number-determined : (reason : Reason) → Determined (Numbers reason)
+pub reason-number-determined : (reason : Reason) → Determined (HasNumber reason)
 reason-number-determined reason = one _

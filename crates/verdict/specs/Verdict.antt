@@ -73,9 +73,9 @@ reasonNumber PastColumn19 = 4
 reasonNumber NotTheReboot = 5
 
 -- what `verdict_on` promises
-abbrev pub Judges : ℕ → List ℕ → Verdict → Type 0
-Judges code d r = r ≡ verdictOf code d
+abbrev pub Rules : ℕ → List ℕ → Verdict → Type 0
+Rules code d r = r ≡ verdictOf code d
 
 -- what `reason_number` promises
-abbrev pub Numbers : Reason → ℕ → Type 0
-Numbers reason r = r ≡ reasonNumber reason
+abbrev pub HasNumber : Reason → ℕ → Type 0
+HasNumber reason r = r ≡ reasonNumber reason

@@ -2,7 +2,7 @@
 ghost use mathlib.Core.Path.{_≡_};
 ghost use Prim.Native.Nat.{_<_, _≤_};
 ghost use lib.ListN.{length};
-ghost use Rattle.verdict.specs.Verdict.{inRange, firstOut, isReboot, wholeVerdict, Judges, Numbers};
+ghost use Rattle.verdict.specs.Verdict.{inRange, firstOut, isReboot, wholeVerdict, Rules, HasNumber};
 use table::Rule;
 
 // The reasons, in the order in which they are looked for.
@@ -113,7 +113,7 @@ fn whole(rule: Rule, content: &[u8]) -> Verdict
 }
 
 pub fn verdict_on(code: u8, content: &[u8]) -> Verdict
-    ensures { λ r. ⌜ Judges code (now (content .entry)) r ⌝ }
+    ensures { λ r. ⌜ Rules code (now (content .entry)) r ⌝ }
 {
     let row = table::look(code);
     if !row.known {
@@ -133,7 +133,7 @@ pub fn verdict_on(code: u8, content: &[u8]) -> Verdict
 
 // Document 01's number of a reason.
 pub fn reason_number(reason: Reason) -> u8
-    ensures { λ r. ⌜ Numbers reason r ⌝ }
+    ensures { λ r. ⌜ HasNumber reason r ⌝ }
 {
     match reason {
         Reason::UnknownCommand => 1,

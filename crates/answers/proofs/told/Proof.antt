@@ -1,5 +1,5 @@
-use borrow.Author.Needs.{needs}
 use Rattle.answers.specs.Answer.{numbersOf}
+use borrow.Author.Needs.{needs}
 use Rattle.answers.proofs.told.Statement.{statement}
 use Rattle.answers.proofs.told.Tie as tie
 
@@ -18,32 +18,9 @@ told-spec =
     (λ c κs. search needs)
     (λ c. search needs)
     (λ c κs. search needs)
-    (λ c. search needs)
-    (λ c κs. search needs)
-    (λ c. search needs)
-    (λ c κs. search needs)
-    (λ c. search needs)
-    (λ c κs. search needs)
-    (λ c. search needs)
-    (λ c κs. search needs)
-    (λ c. search needs)
-    (λ c κs. search needs)
-    (λ c. search needs)
-    (λ c κs. search needs)
-    (λ c. search needs)
-    (λ c κs. search needs)
-    (λ c. search needs)
     (λ c κs. search needs)
     (λ c. rw (c .numbered .ensures, c .before .enum-told .given .1))
     (λ c. rw (c .numbered2 .ensures, c .before .before .answer .given .1))
     (λ c. rw (c .numbered3 .ensures, c .before .before .answer2 .given .1))
     (λ c. rw (c .reason-number .ensures, c .before .before .answer3 .given .1))
-    (λ c. rw (c .numbered4 .ensures, c .before .enum-told2 .given .1))
-    (λ c. rw (c .numbered5 .ensures, c .before .enum-told3 .given .1))
-    (λ c. rw (c .numbered6 .ensures, c .before .enum-told4 .given .1))
-    (λ c. rw (c .numbered7 .ensures, c .before .enum-told5 .given .1))
-    (λ c. rw (c .numbered8 .ensures, c .before .enum-told6 .given .1))
-    (λ c. rw (c .numbered9 .ensures, c .before .enum-told7 .given .1))
-    (λ c. rw (c .numbered10 .ensures, c .before .enum-told8 .given .1))
-    (λ c. rw (c .numbered11 .ensures, c .before .enum-told9 .given .1))
-    (λ c. rw (c .numbered12 .ensures, c .before .enum-told10 .given .1)))
+    (λ c. rw (c .numbered4 .ensures, c .before .check-number .ensures, c .before .before .before .answer4 .given .1)))

@@ -13,18 +13,6 @@ Inv-loop c b r₀ i₀ r i = (i ≤ 8) × (r ≡ afterBits i r₀)
 abbrev μ-loop : tie.MeasureT-loop
 μ-loop c b r₀ i₀ r i = 8 - i
 
-loop-holds : tie.Need-loop-holds Inv-loop μ-loop
-loop-holds c = search needs
-
-bit-requires : tie.Need-bit-requires Inv-loop μ-loop
-bit-requires c κs = search needs
-
-add-i : tie.Need-add-i Inv-loop μ-loop
-add-i c = search needs
-
-loop-less : tie.Need-loop-less Inv-loop μ-loop
-loop-less c = search needs
-
 loop-again : tie.Need-loop-again Inv-loop μ-loop
 loop-again c = (search needs, rw add-one (c .bit .ensures ∙ ap afterBit (c .before .before .loop .inv .1)))
 
@@ -34,4 +22,4 @@ returns c = let e : c .before .loop .i ≡ 8 = omega arith in c .before .loop .i
 
 pub byte-spec : {M : Type 1} → statement M
 byte-spec =
-    tie.close (tie.spec Inv-loop μ-loop loop-holds bit-requires add-i loop-less loop-again returns)
+    tie.close (tie.spec Inv-loop μ-loop (λ c. search needs) (λ c κs. search needs) (λ c. search needs) (λ c. search needs) loop-again returns)

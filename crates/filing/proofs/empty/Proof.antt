@@ -2,8 +2,5 @@ use borrow.Author.Needs.{needs}
 use Rattle.filing.proofs.empty.Statement.{statement}
 use Rattle.filing.proofs.empty.Tie as tie
 
-returns : tie.Need-returns
-returns c = search needs
-
 pub empty-spec : {M : Type 1} → statement M
-empty-spec = tie.close (tie.spec returns)
+empty-spec = tie.close (tie.spec (λ c. search needs))

@@ -21,32 +21,14 @@ loop-holds : tie.Need-loop-holds Inv-loop μ-loop
 unfolding flatFirst
 loop-holds c = search needs
 
-mul-glyph : tie.Need-mul-glyph Inv-loop μ-loop
-mul-glyph c = search needs
-
-array-copy-out-glyph : tie.Need-array-copy-out-glyph Inv-loop μ-loop
-array-copy-out-glyph c = search needs
-
 slice-aggregate-paste : tie.Need-slice-aggregate-paste Inv-loop μ-loop
 slice-aggregate-paste c = sym (c .before .before .before .loop .inv .2)
-
-mul-paste : tie.Need-mul-paste Inv-loop μ-loop
-mul-paste c = search needs
 
 slice-aggregate-paste-2 : tie.Need-slice-aggregate-paste-2 Inv-loop μ-loop
 slice-aggregate-paste-2 c =
     let l = c .before .before .before .before .loop in
     let a = c .before .before .before .before .before in
     sym (rows-eight (a .args .t1) (a .good .0 .0) (l .g) (omega (arith, a .good .0 .1 .0 .1)) (a .good .0 .1 .1))
-
-paste-requires : tie.Need-paste-requires Inv-loop μ-loop
-paste-requires c κs = search needs
-
-add-g : tie.Need-add-g Inv-loop μ-loop
-add-g c = search needs
-
-loop-less : tie.Need-loop-less Inv-loop μ-loop
-loop-less c = search needs
 
 loop-again : tie.Need-loop-again Inv-loop μ-loop
 loop-again c =
@@ -74,13 +56,13 @@ flattened-spec =
     Inv-loop
     μ-loop
     loop-holds
-    mul-glyph
-    array-copy-out-glyph
+    (λ c. search needs)
+    (λ c. search needs)
     slice-aggregate-paste
-    mul-paste
+    (λ c. search needs)
     slice-aggregate-paste-2
-    paste-requires
-    add-g
-    loop-less
+    (λ c κs. search needs)
+    (λ c. search needs)
+    (λ c. search needs)
     loop-again
     returns)

@@ -16,30 +16,6 @@ loop-holds : tie.Need-loop-holds Inv-loop μ-loop
 unfolding nestedFirst
 loop-holds c = (search needs, refl)
 
-slice-aggregate-eight : tie.Need-slice-aggregate-eight Inv-loop μ-loop
-slice-aggregate-eight c = search needs
-
-mul-eight : tie.Need-mul-eight Inv-loop μ-loop
-mul-eight c = search needs
-
-eight-requires : tie.Need-eight-requires Inv-loop μ-loop
-eight-requires c κs = search needs
-
-cast-glyphs : tie.Need-cast-glyphs Inv-loop μ-loop
-cast-glyphs c = search needs
-
-mul-glyphs : tie.Need-mul-glyphs Inv-loop μ-loop
-mul-glyphs c = search needs
-
-array-set-from-glyphs : tie.Need-array-set-from-glyphs Inv-loop μ-loop
-array-set-from-glyphs c = search needs
-
-add-n : tie.Need-add-n Inv-loop μ-loop
-add-n c = search needs
-
-loop-less : tie.Need-loop-less Inv-loop μ-loop
-loop-less c = search needs
-
 loop-again : tie.Need-loop-again Inv-loop μ-loop
 loop-again c =
     let l = c .before .before .before .loop in
@@ -57,13 +33,13 @@ nested-spec =
     Inv-loop
     μ-loop
     loop-holds
-    slice-aggregate-eight
-    mul-eight
-    eight-requires
-    cast-glyphs
-    mul-glyphs
-    array-set-from-glyphs
-    add-n
-    loop-less
+    (λ c. search needs)
+    (λ c. search needs)
+    (λ c. search needs)
+    (λ c κs. search needs)
+    (λ c. search needs)
+    (λ c. search needs)
+    (λ c. search needs)
+    (λ c. search needs)
     loop-again
     returns)

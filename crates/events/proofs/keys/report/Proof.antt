@@ -5,25 +5,10 @@ use Rattle.lists.proofs.Laws.{when-true, when-false}
 use Rattle.events.proofs.keys.report.Statement.{statement}
 use Rattle.events.proofs.keys.report.Tie as tie
 
-is-on-requires : tie.Need-is-on-requires
-is-on-requires c κs = search needs
-
 returns : tie.Need-returns
 returns c =
     let e = sym (c .before .is-on .ensures) ∙ not-true _ (c .if1 .taken) in
     (sym (when-false _ _ _ e), sym (when-false _ _ _ e))
-
-report-code-requires : tie.Need-report-code-requires
-report-code-requires c κs = search needs
-
-slice-aggregate-compose : tie.Need-slice-aggregate-compose
-slice-aggregate-compose c = search needs
-
-compose-requires : tie.Need-compose-requires
-compose-requires c κs = search needs
-
-same-length : tie.Need-same-length
-same-length c = search needs
 
 returns-2 : tie.Need-returns-2
 returns-2 c =
@@ -38,10 +23,10 @@ pub report-spec : {M : Type 1} → statement M
 report-spec =
     tie.close
     (tie.spec
-    is-on-requires
+    (λ c κs. search needs)
     returns
-    report-code-requires
-    slice-aggregate-compose
-    compose-requires
-    same-length
+    (λ c κs. search needs)
+    (λ c. search needs)
+    (λ c κs. search needs)
+    (λ c. search needs)
     returns-2)

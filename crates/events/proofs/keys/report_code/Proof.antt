@@ -17,21 +17,12 @@ read-at-most most [] e i = omega arith
 read-at-most most (x ∷ xs) e zero = leb-true _ _ (and-eq-true-iff (x ≤? most) _ .0 e .0)
 read-at-most most (x ∷ xs) e (suc i) = read-at-most most xs (and-eq-true-iff (x ≤? most) _ .0 e .1) i
 
-slice-aggregate-at : tie.Need-slice-aggregate-at
-slice-aggregate-at c = search needs
-
-at-requires : tie.Need-at-requires
-at-requires c κs = search needs
-
 add-result : tie.Need-add-result
 unfolding all
 add-result c = omega (arith, c .before .at .ensures, read-at-most 6 (1 ∷ 5 ∷ 6 ∷ 3 ∷ 4 ∷ 2 ∷ []) refl (c .before .before .before .args .number))
-
-returns : tie.Need-returns
-returns c = search needs
 
 returns-2 : tie.Need-returns-2
 returns-2 c = rw (c .before .at .ensures, c .if1 .left)
 
 pub report-code-spec : {M : Type 1} → statement M
-report-code-spec = tie.close (tie.spec slice-aggregate-at at-requires add-result returns returns-2)
+report-code-spec = tie.close (tie.spec (λ c. search needs) (λ c κs. search needs) add-result (λ c. search needs) returns-2)

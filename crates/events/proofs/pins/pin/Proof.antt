@@ -1,59 +1,57 @@
+use Prim.Native.Nat.{_≤_}
 use mathlib.Core.Path.{_≡_, sym, _∙_}
-use mathlib.Core.Bool.{true}
 use native.Mathlib.Omega.{arith}
-use borrow.Author.Needs.{needs}
-use borrow.Author.Tests.{not-true, not-false, le-leb, lt-leb}
+use borrow.Author.Tests.{leb-true}
+use Rattle.panel.specs.State.{withPins, withBody}
 use Rattle.panel.specs.Ranges.{inRanges}
-use Rattle.carry.specs.Carry.{withPins}
 use Rattle.answers.specs.Answer.{acceptedCall}
-use Rattle.events.specs.Keys.{withBody}
-use Rattle.answers.proofs.Checks.{here, later, refused-by, accepted-by}
+use Rattle.answers.specs.Checks.{checkedBy}
+use Rattle.answers.proofs.Checks.{Pass, accepted-by, decided-fails, decided-passes, first-one, one-more}
+use Rattle.events.specs.Pins.{pinTests}
+use borrow.Author.Needs.{needs}
 use Rattle.events.proofs.pins.pin.Statement.{statement}
 use Rattle.events.proofs.pins.pin.Tie as tie
 
-in-range : (c : tie.Else1) → inRanges (c .before .before .args .p) ≡ true
-in-range c = sym (c .before .in-ranges .ensures) ∙ not-false _ (c .if1 .left)
+-- how the checks come out
+came-out : (c : tie.After-also2) → (let a = c .before .before .before .args in c .also2 .result ≡ checkedBy (pinTests (inRanges (a .p)) (a .number)))
+came-out c = one-more _ _ _ (first-one _ _ (rw (c .before .before .in-ranges .ensures) at (c .before .also .ensures))) (c .also2 .ensures)
 
-in-ranges-requires : tie.Need-in-ranges-requires
-in-ranges-requires c κs = search needs
+passed : (c : tie.After-enum-told) → (let a = c .before .before .before .before .before .args in Pass (pinTests (inRanges (a .p)) (a .number)))
+passed c = decided-passes _ (sym (came-out (c .before .before)) ∙ c .enum-told .given .1)
 
-refused-call-requires : tie.Need-refused-call-requires
-refused-call-requires c κs = search needs
+-- the pin is one of five
+pin-known : (c : tie.After-enum-told) → c .before .before .before .before .before .args .number ≤ 4
+pin-known c = leb-true _ _ (passed c .1 .0)
+
+cast-after-event : tie.Need-cast-after-event
+cast-after-event c = omega (arith, pin-known c)
+
+after-event-requires : tie.Need-after-event-requires
+after-event-requires c κs = omega (arith, pin-known c)
 
 returns : tie.Need-returns
-returns c = c .refused-call .ensures ∙ sym (refused-by (here (sym (c .before .before .in-ranges .ensures) ∙ not-true _ (c .before .if1 .taken))) _ _)
-
-refused-call-requires-2 : tie.Need-refused-call-requires-2
-refused-call-requires-2 c κs = search needs
+returns c =
+    c .refused-call .ensures ∙ sym (decided-fails _ (sym (came-out (c .before .before .before .before)) ∙ c .before .before .check .given .1) _ _)
 
 returns-2 : tie.Need-returns-2
 returns-2 c =
-    c .refused-call2 .ensures
-    ∙ sym (refused-by (later (in-range (c .before .before)) (here (lt-leb _ _ (c .before .if2 .taken)))) _ _)
-
-after-event-requires : tie.Need-after-event-requires
-after-event-requires c κs = omega arith
-
-accepted-call-requires : tie.Need-accepted-call-requires
-accepted-call-requires c κs = search needs
-
-returns-3 : tie.Need-returns-3
-returns-3 c =
-    let v = c .before .before in
-    let k = v .before in
-    let a = k .before .before .before .args in
-    let e = v .after-event .ensures in
-    c .accepted-call .ensures ∙ (λ i. acceptedCall (withBody (a .p) (withPins (a .p .body) (e i))) 0) ∙ sym (accepted-by _ (in-range (k .before), (le-leb _ _ (k .if2 .left), tt)) _ _)
+    let k = c .before .before .before in
+    let p = k .before .before .before .before .before .args .p in
+    let e = c .before .before .after-event .ensures in
+    c .accepted-call .ensures ∙ (λ i. acceptedCall (withBody p (withPins (p .body) (e i))) 0) ∙ sym (accepted-by _ (passed k) _ _)
 
 pub pin-spec : {M : Type 1} → statement M
 pin-spec =
     tie.close
     (tie.spec
-    in-ranges-requires
-    refused-call-requires
-    returns
-    refused-call-requires-2
-    returns-2
+    (λ c κs. search needs)
+    (λ c κs. search needs)
+    (λ c κs. search needs)
+    (λ c. search needs)
+    (λ c κs. search needs)
+    (λ c. search needs)
+    cast-after-event
     after-event-requires
-    accepted-call-requires
-    returns-3)
+    (λ c κs. search needs)
+    returns
+    returns-2)

@@ -8,16 +8,10 @@ use borrow.Author.Needs.{needs}
 use Rattle.framing.proofs.scan.kept.Statement.{statement}
 use Rattle.framing.proofs.scan.kept.Tie as tie
 
-slice-aggregate-paste : tie.Need-slice-aggregate-paste
-slice-aggregate-paste c = search needs
-
-paste-requires : tie.Need-paste-requires
-paste-requires c κs = search needs
-
 returns : tie.Need-returns
 returns c =
     let w = c .before .before .before .before .args .window .now in
     ap (λ (b : List ℕ). record { bytes = b; count = length w }) (c .before .paste .ensures ∙ padding 25 w (omega arith))
 
 pub kept-spec : {M : Type 1} → statement M
-kept-spec = tie.close (tie.spec slice-aggregate-paste paste-requires returns)
+kept-spec = tie.close (tie.spec (λ c. search needs) (λ c κs. search needs) returns)

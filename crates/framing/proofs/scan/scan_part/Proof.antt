@@ -26,44 +26,14 @@ window c =
     let s = c .before .before .before .before .before .before .before .before .before .before .before .before .before .before in
     laid (s .args .hold .bytes) _ _ _ _ _ (given s) (omega arith) (omega (arith, a .at-most2 .ensures)) (omega (arith, a .at-most2 .ensures)) (c .before .before .before .before .before .before .paste .ensures) (c .before .before .paste2 .ensures)
 
-at-most-requires : tie.Need-at-most-requires
-at-most-requires c κs = search needs
-
-scan-rest-requires : tie.Need-scan-rest-requires
-scan-rest-requires c κs = search needs
-
 returns : tie.Need-returns
 returns c =
     let a = c .before .before in
     let g = a .before .before .before .args in
     c .scan-rest .ensures ∙ ap scannedOf (none-held (g .hold .bytes) (g .piece .now) (g .hold .count) (a .at-most .result) (a .at-most .ensures) (c .before .if1 .taken))
 
-at-most-requires-2 : tie.Need-at-most-requires-2
-at-most-requires-2 c κs = search needs
-
-slice-aggregate-paste : tie.Need-slice-aggregate-paste
-slice-aggregate-paste c = search needs
-
-slice-aggregate-paste-2 : tie.Need-slice-aggregate-paste-2
-slice-aggregate-paste-2 c = search needs
-
-paste-requires : tie.Need-paste-requires
-paste-requires c κs = search needs
-
-slice-aggregate-paste-3 : tie.Need-slice-aggregate-paste-3
-slice-aggregate-paste-3 c = search needs
-
 slice-aggregate-paste-4 : tie.Need-slice-aggregate-paste-4
 slice-aggregate-paste-4 c = simp length-take (omega (arith, c .before .before .before .before .before .before .at-most2 .ensures))
-
-paste-requires-2 : tie.Need-paste-requires-2
-paste-requires-2 c κs = search needs
-
-add-window : tie.Need-add-window
-add-window c = search needs
-
-array-share-prefix-window : tie.Need-array-share-prefix-window
-array-share-prefix-window c = search needs
 
 slice-aggregate-scan-window : tie.Need-slice-aggregate-scan-window
 slice-aggregate-scan-window c = sym (window c .size)
@@ -87,18 +57,18 @@ pub scan-part-spec : {M : Type 1} → statement M
 scan-part-spec =
     tie.close
     (tie.spec
-    at-most-requires
-    scan-rest-requires
+    (λ c κs. search needs)
+    (λ c κs. search needs)
     returns
-    at-most-requires-2
-    slice-aggregate-paste
-    slice-aggregate-paste-2
-    paste-requires
-    slice-aggregate-paste-3
+    (λ c κs. search needs)
+    (λ c. search needs)
+    (λ c. search needs)
+    (λ c κs. search needs)
+    (λ c. search needs)
     slice-aggregate-paste-4
-    paste-requires-2
-    add-window
-    array-share-prefix-window
+    (λ c κs. search needs)
+    (λ c. search needs)
+    (λ c. search needs)
     slice-aggregate-scan-window
     scan-window-requires
     returns-2)

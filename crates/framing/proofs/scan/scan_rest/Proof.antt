@@ -7,51 +7,18 @@ use borrow.Author.Needs.{needs}
 use Rattle.framing.proofs.scan.scan_rest.Statement.{statement}
 use Rattle.framing.proofs.scan.scan_rest.Tie as tie
 
-walk-requires : tie.Need-walk-requires
-walk-requires c κs = search needs
-
-sub-with-packet : tie.Need-sub-with-packet
-sub-with-packet c = search needs
-
-part-with-packet-start : tie.Need-part-with-packet-start
-part-with-packet-start c = search needs
-
-part-with-packet-end : tie.Need-part-with-packet-end
-part-with-packet-end c = search needs
-
-add-with-packet : tie.Need-add-with-packet
-add-with-packet c = search needs
-
-add-with-packet-2 : tie.Need-add-with-packet-2
-add-with-packet-2 c = search needs
-
 with-packet-requires : tie.Need-with-packet-requires
 with-packet-requires c κs =
     let a = c .before .before .before in
     let w = a .walk .ensures in
-    let h = packets _ _ _ _ _ _ (w .stands) (is-packet _ _ _ _ w (c .before .before .if1 .taken)) in
-    (h .0, h .1, h .2, omega (arith, w .stands .work, w .stands .order, w .stands .within))
-
-sub-waiting : tie.Need-sub-waiting
-sub-waiting c = search needs
-
-part-waiting-start : tie.Need-part-waiting-start
-part-waiting-start c = search needs
-
-part-waiting-end : tie.Need-part-waiting-end
-part-waiting-end c = search needs
-
-add-waiting : tie.Need-add-waiting
-add-waiting c = search needs
-
-add-waiting-2 : tie.Need-add-waiting-2
-add-waiting-2 c = search needs
+    let h = packets _ _ _ _ _ _ (w .reached) (is-packet _ _ _ _ w (c .before .before .if1 .taken)) in
+    (h .0, h .1, h .2, omega (arith, w .reached .work, w .reached .order, w .reached .within))
 
 waiting-requires : tie.Need-waiting-requires
 waiting-requires c κs =
     let a = c .before .before .before in
     let w = a .walk .ensures in
-    let h = waits _ _ _ _ _ _ (w .stands) (is-wait _ _ _ _ w (c .before .before .if1 .left)) in
+    let h = waits _ _ _ _ _ _ (w .reached) (is-wait _ _ _ _ w (c .before .before .if1 .left)) in
     simp length-take (omega arith)
 
 returns : tie.Need-returns
@@ -70,18 +37,18 @@ pub scan-rest-spec : {M : Type 1} → statement M
 scan-rest-spec =
     tie.close
     (tie.spec
-    walk-requires
-    sub-with-packet
-    part-with-packet-start
-    part-with-packet-end
-    add-with-packet
-    add-with-packet-2
+    (λ c κs. search needs)
+    (λ c. search needs)
+    (λ c. search needs)
+    (λ c. search needs)
+    (λ c. search needs)
+    (λ c. search needs)
     with-packet-requires
-    sub-waiting
-    part-waiting-start
-    part-waiting-end
-    add-waiting
-    add-waiting-2
+    (λ c. search needs)
+    (λ c. search needs)
+    (λ c. search needs)
+    (λ c. search needs)
+    (λ c. search needs)
     waiting-requires
     returns
     returns-2)

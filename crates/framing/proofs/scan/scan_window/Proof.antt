@@ -25,25 +25,13 @@ walk-requires c κs =
     let p = c .before .before .pre in
     (omega arith, omega arith, p .1, omega (arith, window-size (g .window .now) (g .piece .now) (g .count) (p .0) (p .1)))
 
-sub-taken : tie.Need-sub-taken
-sub-taken c = search needs
-
-sub-with-packet : tie.Need-sub-with-packet
-sub-with-packet c = search needs
-
-part-with-packet-start : tie.Need-part-with-packet-start
-part-with-packet-start c = search needs
-
-part-with-packet-end : tie.Need-part-with-packet-end
-part-with-packet-end c = search needs
-
 with-packet-requires : tie.Need-with-packet-requires
 with-packet-requires c κs =
     let g = c .before .before .before .before .before .args in
     let p = c .before .before .before .before .before .pre in
     let w = c .before .before .walk .ensures in
-    let h = packets _ _ _ _ _ _ (w .stands) (is-packet _ _ _ _ w (c .before .if1 .taken)) in
-    (h .0, h .1, h .2, omega (arith, w .stands .work, w .stands .order, w .stands .within, window-size (g .window .now) (g .piece .now) (g .count) (p .0) (p .1)))
+    let h = packets _ _ _ _ _ _ (w .reached) (is-packet _ _ _ _ w (c .before .if1 .taken)) in
+    (h .0, h .1, h .2, omega (arith, w .reached .work, w .reached .order, w .reached .within, window-size (g .window .now) (g .piece .now) (g .count) (p .0) (p .1)))
 
 returns : tie.Need-returns
 returns c =
@@ -51,19 +39,10 @@ returns c =
     let p = a .before .before .before .pre in
     c .with-packet .ensures ∙ ap scannedOf (sym (to-packet _ _ _ _ (p .0) (p .1) (a .walk .ensures) (c .before .before .if1 .taken)))
 
-sub-waiting : tie.Need-sub-waiting
-sub-waiting c = search needs
-
-part-waiting-start : tie.Need-part-waiting-start
-part-waiting-start c = search needs
-
-part-waiting-end : tie.Need-part-waiting-end
-part-waiting-end c = search needs
-
 waiting-requires : tie.Need-waiting-requires
 waiting-requires c κs =
     let w = c .before .before .before .walk .ensures in
-    let h = waits _ _ _ _ _ _ (w .stands) (is-wait _ _ _ _ w (c .before .before .if1 .left)) in
+    let h = waits _ _ _ _ _ _ (w .reached) (is-wait _ _ _ _ w (c .before .before .if1 .left)) in
     simp length-take (omega arith)
 
 returns-2 : tie.Need-returns-2
@@ -79,7 +58,7 @@ scan-rest-requires : tie.Need-scan-rest-requires
 scan-rest-requires c κs =
     let g = c .before .before .before .before .before .args in
     let p = c .before .before .before .before .before .pre in
-    let v = c .before .before .walk .ensures .stands in
+    let v = c .before .before .walk .ensures .reached in
     let h = rests c in
     (omega (arith, h .0, v .order), omega (arith, h .0, v .room), h .1, p .3, p .2, omega (arith, v .work, v .order, v .within, window-size (g .window .now) (g .piece .now) (g .count) (p .0) (p .1)))
 
@@ -94,15 +73,15 @@ scan-window-spec =
     tie.close
     (tie.spec
     walk-requires
-    sub-taken
-    sub-with-packet
-    part-with-packet-start
-    part-with-packet-end
+    (λ c. search needs)
+    (λ c. search needs)
+    (λ c. search needs)
+    (λ c. search needs)
     with-packet-requires
     returns
-    sub-waiting
-    part-waiting-start
-    part-waiting-end
+    (λ c. search needs)
+    (λ c. search needs)
+    (λ c. search needs)
     waiting-requires
     returns-2
     sub-scan-rest

@@ -3,13 +3,10 @@ use borrow.Author.Needs.{needs}
 use Rattle.framing.proofs.scan.waiting.Statement.{statement}
 use Rattle.framing.proofs.scan.waiting.Tie as tie
 
-kept-requires : tie.Need-kept-requires
-kept-requires c κs = search needs
-
 returns : tie.Need-returns
 returns c =
     let a = c .before .before .args in
     scanned-waiting (a .window .now) (a .taken) (a .dropped) (a .checked) (c .kept .result) (c .kept .ensures)
 
 pub waiting-spec : {M : Type 1} → statement M
-waiting-spec = tie.close (tie.spec kept-requires returns)
+waiting-spec = tie.close (tie.spec (λ c κs. search needs) returns)

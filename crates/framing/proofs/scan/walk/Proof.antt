@@ -4,7 +4,7 @@ use lib.ListN.{length}
 use Rattle.lists.specs.Tests.{when_then_else_}
 use Rattle.packets.specs.declared.judge.Judgement.the-variants.{Wait, LongLength, WrongChecksum, Packet}
 use Rattle.packets.specs.Judge.{judge}
-use Rattle.framing.specs.Walk.{between, Stands}
+use Rattle.framing.specs.Walk.{between, Reaches}
 use Rattle.framing.proofs.Waits.{waits-for}
 use Rattle.framing.proofs.Turns.{first-turn, longs, wrongs, farther, took, dropped-long, dropped-wrong}
 use native.Mathlib.Omega.{arith}
@@ -13,7 +13,7 @@ use Rattle.framing.proofs.scan.walk.Statement.{statement}
 use Rattle.framing.proofs.scan.walk.Tie as tie
 
 abbrev Inv-loop : tie.InvT-loop
-Inv-loop bytes first next start₀ end₀ checked₀ start end checked = Stands bytes first next start end checked
+Inv-loop bytes first next start₀ end₀ checked₀ start end checked = Reaches bytes first next start end checked
 
 abbrev μ-loop : tie.MeasureT-loop
 μ-loop bytes first next start₀ end₀ checked₀ start end checked = 2 * (length bytes - end) + (end - start)
@@ -33,38 +33,8 @@ is-packet c = sym (c .before .before .judge .ensures) ∙ c .enum-told4 .given .
 loop-holds : tie.Need-loop-holds Inv-loop μ-loop
 loop-holds c = first-turn _ _ _ (omega arith) (omega arith) (omega arith)
 
-sub-judge : tie.Need-sub-judge Inv-loop μ-loop
-sub-judge c = search needs
-
-part-judge-start : tie.Need-part-judge-start Inv-loop μ-loop
-part-judge-start c = search needs
-
-part-judge-end : tie.Need-part-judge-end Inv-loop μ-loop
-part-judge-end c = search needs
-
-judge-requires : tie.Need-judge-requires Inv-loop μ-loop
-judge-requires c κs = search needs
-
-enum-told : tie.Need-enum-told Inv-loop μ-loop
-enum-told c = search needs
-
-sub-wanted : tie.Need-sub-wanted Inv-loop μ-loop
-sub-wanted c = search needs
-
-part-wanted-start : tie.Need-part-wanted-start Inv-loop μ-loop
-part-wanted-start c = search needs
-
-part-wanted-end : tie.Need-part-wanted-end Inv-loop μ-loop
-part-wanted-end c = search needs
-
-wanted-requires : tie.Need-wanted-requires Inv-loop μ-loop
-wanted-requires c κs = search needs
-
 add-at-most : tie.Need-add-at-most Inv-loop μ-loop
 add-at-most c = let n = waits-for _ (is-wait (c .before .before .before)) .1 in omega (arith, c .wanted .ensures)
-
-at-most-requires : tie.Need-at-most-requires Inv-loop μ-loop
-at-most-requires c κs = search needs
 
 loop-less : tie.Need-loop-less Inv-loop μ-loop
 loop-less c =
@@ -82,16 +52,10 @@ unfolding when_then_else_
 returns c =
     let l = c .before .before .before .before .before .loop in
     record {
-      stands = l .inv;
+      reached = l .inv;
       judged = is-wait (c .before);
       used = λ _. omega arith;
     }
-
-enum-told-2 : tie.Need-enum-told-2 Inv-loop μ-loop
-enum-told-2 c = search needs
-
-add-start : tie.Need-add-start Inv-loop μ-loop
-add-start c = search needs
 
 loop-less-2 : tie.Need-loop-less-2 Inv-loop μ-loop
 loop-less-2 c = let n = longs _ _ _ _ _ _ (c .before .before .before .before .loop .inv) (is-long c) in omega arith
@@ -99,26 +63,8 @@ loop-less-2 c = let n = longs _ _ _ _ _ _ (c .before .before .before .before .lo
 loop-again-2 : tie.Need-loop-again-2 Inv-loop μ-loop
 loop-again-2 c = dropped-long _ _ _ _ _ _ (c .before .before .before .before .loop .inv) (is-long c)
 
-enum-told-3 : tie.Need-enum-told-3 Inv-loop μ-loop
-enum-told-3 c = search needs
-
-add-wide : tie.Need-add-wide Inv-loop μ-loop
-add-wide c = search needs
-
 shared-slice-read-wide : tie.Need-shared-slice-read-wide Inv-loop μ-loop
 shared-slice-read-wide c = let n = wrongs _ _ _ _ _ _ (c .before .before .before .before .before .loop .inv) (is-wrong (c .before)) .0 in omega arith
-
-wide-requires : tie.Need-wide-requires Inv-loop μ-loop
-wide-requires c κs = search needs
-
-add-checked : tie.Need-add-checked Inv-loop μ-loop
-add-checked c = search needs
-
-add-checked-2 : tie.Need-add-checked-2 Inv-loop μ-loop
-add-checked-2 c = search needs
-
-add-start-2 : tie.Need-add-start-2 Inv-loop μ-loop
-add-start-2 c = search needs
 
 loop-less-3 : tie.Need-loop-less-3 Inv-loop μ-loop
 loop-less-3 c = let n = wrongs _ _ _ _ _ _ (c .before .before .before .before .before .before .loop .inv) (is-wrong (c .before .before)) .0 in omega arith
@@ -126,15 +72,12 @@ loop-less-3 c = let n = wrongs _ _ _ _ _ _ (c .before .before .before .before .b
 loop-again-3 : tie.Need-loop-again-3 Inv-loop μ-loop
 loop-again-3 c = dropped-wrong _ _ _ _ _ _ (c .before .before .before .before .before .before .loop .inv) _ (is-wrong (c .before .before)) (c .wide .ensures .0)
 
-enum-told-4 : tie.Need-enum-told-4 Inv-loop μ-loop
-enum-told-4 c = search needs
-
 returns-2 : tie.Need-returns-2 Inv-loop μ-loop
 unfolding when_then_else_
 returns-2 c =
     let l = c .before .before .before .before .loop in
     record {
-      stands = l .inv;
+      reached = l .inv;
       judged = is-packet c;
       used = λ e. let z : _≡_ {A = ℕ} 0 1 = cc in absurd (omega arith);
     }
@@ -146,32 +89,32 @@ walk-spec =
     Inv-loop
     μ-loop
     loop-holds
-    sub-judge
-    part-judge-start
-    part-judge-end
-    judge-requires
-    enum-told
-    sub-wanted
-    part-wanted-start
-    part-wanted-end
-    wanted-requires
+    (λ c. search needs)
+    (λ c. search needs)
+    (λ c. search needs)
+    (λ c κs. search needs)
+    (λ c. search needs)
+    (λ c. search needs)
+    (λ c. search needs)
+    (λ c. search needs)
+    (λ c κs. search needs)
     add-at-most
-    at-most-requires
+    (λ c κs. search needs)
     loop-less
     loop-again
     returns
-    enum-told-2
-    add-start
+    (λ c. search needs)
+    (λ c. search needs)
     loop-less-2
     loop-again-2
-    enum-told-3
-    add-wide
+    (λ c. search needs)
+    (λ c. search needs)
     shared-slice-read-wide
-    wide-requires
-    add-checked
-    add-checked-2
-    add-start-2
+    (λ c κs. search needs)
+    (λ c. search needs)
+    (λ c. search needs)
+    (λ c. search needs)
     loop-less-3
     loop-again-3
-    enum-told-4
+    (λ c. search needs)
     returns-2)

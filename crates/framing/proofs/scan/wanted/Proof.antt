@@ -8,18 +8,9 @@ use Rattle.framing.proofs.scan.wanted.Tie as tie
 returns : tie.Need-returns
 returns c = sym (needed-short _ (omega arith))
 
-shared-slice-read-wide : tie.Need-shared-slice-read-wide
-shared-slice-read-wide c = search needs
-
-wide-requires : tie.Need-wide-requires
-wide-requires c κs = search needs
-
-add-result : tie.Need-add-result
-add-result c = search needs
-
 returns-2 : tie.Need-returns-2
 returns-2 c = omega (arith, c .wide .ensures .0, needed-part (c .before .before .before .before .args .held .now) (omega arith))
 
 pub wanted-spec : {M : Type 1} → statement M
 wanted-spec =
-    tie.close (tie.spec returns shared-slice-read-wide wide-requires add-result returns-2)
+    tie.close (tie.spec returns (λ c. search needs) (λ c κs. search needs) (λ c. search needs) returns-2)

@@ -7,23 +7,11 @@ use Rattle.packets.proofs.judge.judge.Tie as tie
 returns : tie.Need-returns
 returns c = sym (shown (c .before .before .args .held .now) (short (c .if1 .taken)))
 
-shared-slice-read-wide : tie.Need-shared-slice-read-wide
-shared-slice-read-wide c = search needs
-
-wide-requires : tie.Need-wide-requires
-wide-requires c κs = search needs
-
 returns-2 : tie.Need-returns-2
 returns-2 c = let w = c .before .wide in judged-long (c .before .before .before .before .before .args .held .now) (w .result) (w .ensures .0) (c .before .before .before .if1 .left) (c .if2 .taken)
 
-add-if3 : tie.Need-add-if3
-add-if3 c = search needs
-
 returns-3 : tie.Need-returns-3
 returns-3 c = let w = c .before .before .wide in judged-part (c .before .before .before .before .before .before .args .held .now) (w .result) (w .ensures .0) (c .before .before .before .before .if1 .left) (c .before .if2 .left) (c .if3 .taken)
-
-checksum-right-requires : tie.Need-checksum-right-requires
-checksum-right-requires c κs = search needs
 
 returns-4 : tie.Need-returns-4
 returns-4 c =
@@ -42,11 +30,11 @@ judge-spec =
     tie.close
     (tie.spec
     returns
-    shared-slice-read-wide
-    wide-requires
+    (λ c. search needs)
+    (λ c κs. search needs)
     returns-2
-    add-if3
+    (λ c. search needs)
     returns-3
-    checksum-right-requires
+    (λ c κs. search needs)
     returns-4
     returns-5)

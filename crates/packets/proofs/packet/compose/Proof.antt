@@ -22,50 +22,17 @@ returns-2 c =
     let a = c .before .before .before .before .args in
     composes-nothing (a .out .now) (a .content .now) (a .kind) (too-long (a .out .now) (a .content .now) (c .if2 .taken))
 
-slice-write-out : tie.Need-slice-write-out
-slice-write-out c = search needs
-
-cast-out : tie.Need-cast-out
-cast-out c = search needs
-
-slice-write-out-2 : tie.Need-slice-write-out-2
-slice-write-out-2 c = search needs
-
-paste-requires : tie.Need-paste-requires
-paste-requires c κs = search needs
-
-add-checksum : tie.Need-add-checksum
-add-checksum c = search needs
-
 slice-reshare-prefix-checksum : tie.Need-slice-reshare-prefix-checksum
 slice-reshare-prefix-checksum c = omega (arith, still (c .before .before))
 
 slice-aggregate-checksum : tie.Need-slice-aggregate-checksum
 slice-aggregate-checksum c = simp length-take (omega (arith, still (c .before .before .before)))
 
-checksum-requires : tie.Need-checksum-requires
-checksum-requires c κs = search needs
-
-cast-out-2 : tie.Need-cast-out-2
-cast-out-2 c = search needs
-
-add-out : tie.Need-add-out
-add-out c = search needs
-
 slice-write-out-3 : tie.Need-slice-write-out-3
 slice-write-out-3 c = omega (arith, still (c .before .before .before .before))
 
-cast-out-3 : tie.Need-cast-out-3
-cast-out-3 c = search needs
-
-add-out-2 : tie.Need-add-out-2
-add-out-2 c = search needs
-
 slice-write-out-4 : tie.Need-slice-write-out-4
 slice-write-out-4 c = simp length-set (omega (arith, still (c .before .before .before .before)))
-
-add-result : tie.Need-add-result
-add-result c = search needs
 
 same-length : tie.Need-same-length
 same-length c = simp length-set (still (c .before .before .before .before))
@@ -82,20 +49,20 @@ compose-spec =
     (tie.spec
     returns
     returns-2
-    slice-write-out
-    cast-out
-    slice-write-out-2
-    paste-requires
-    add-checksum
+    (λ c. search needs)
+    (λ c. search needs)
+    (λ c. search needs)
+    (λ c κs. search needs)
+    (λ c. search needs)
     slice-reshare-prefix-checksum
     slice-aggregate-checksum
-    checksum-requires
-    cast-out-2
-    add-out
+    (λ c κs. search needs)
+    (λ c. search needs)
+    (λ c. search needs)
     slice-write-out-3
-    cast-out-3
-    add-out-2
+    (λ c. search needs)
+    (λ c. search needs)
     slice-write-out-4
-    add-result
+    (λ c. search needs)
     same-length
     returns-3)

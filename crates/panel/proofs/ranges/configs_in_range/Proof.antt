@@ -15,21 +15,6 @@ Inv-loop configs ok₀ i₀ ok i = (i ≤ length configs) × (configsInRange con
 abbrev μ-loop : tie.MeasureT-loop
 μ-loop configs ok₀ i₀ ok i = length configs - i
 
-loop-holds : tie.Need-loop-holds Inv-loop μ-loop
-loop-holds c = search needs
-
-shared-slice-read-config-allowed : tie.Need-shared-slice-read-config-allowed Inv-loop μ-loop
-shared-slice-read-config-allowed c = search needs
-
-config-allowed-requires : tie.Need-config-allowed-requires Inv-loop μ-loop
-config-allowed-requires c κs = search needs
-
-add-i : tie.Need-add-i Inv-loop μ-loop
-add-i c = search needs
-
-loop-less : tie.Need-loop-less Inv-loop μ-loop
-loop-less c = search needs
-
 loop-again : tie.Need-loop-again Inv-loop μ-loop
 loop-again c =
     let l = c .before .before .before .loop in
@@ -48,10 +33,10 @@ configs-in-range-spec =
     (tie.spec
     Inv-loop
     μ-loop
-    loop-holds
-    shared-slice-read-config-allowed
-    config-allowed-requires
-    add-i
-    loop-less
+    (λ c. search needs)
+    (λ c. search needs)
+    (λ c κs. search needs)
+    (λ c. search needs)
+    (λ c. search needs)
     loop-again
     returns)

@@ -3,15 +3,9 @@ use borrow.Author.Needs.{needs}
 use Rattle.panel.proofs.state.powered_on.Statement.{statement}
 use Rattle.panel.proofs.state.powered_on.Tie as tie
 
-factory-requires : tie.Need-factory-requires
-factory-requires c κs = search needs
-
-empty-requires : tie.Need-empty-requires
-empty-requires c κs = search needs
-
 returns : tie.Need-returns
 unfolding poweredOn
 returns c = rw (c .before .factory .ensures, c .empty .ensures)
 
 pub powered-on-spec : {M : Type 1} → statement M
-powered-on-spec = tie.close (tie.spec factory-requires empty-requires returns)
+powered-on-spec = tie.close (tie.spec (λ c κs. search needs) (λ c κs. search needs) returns)

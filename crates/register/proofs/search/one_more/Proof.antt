@@ -13,12 +13,9 @@ returns-2 : tie.Need-returns-2
 unfolding oneMore when_then_else_
 returns-2 c = simp (le-ltb _ _ (c .before .if1 .left), c .if2 .taken)
 
-add-result : tie.Need-add-result
-add-result c = search needs
-
 returns-3 : tie.Need-returns-3
 unfolding oneMore when_then_else_
 returns-3 c = simp (le-ltb _ _ (c .before .if1 .left), c .if2 .left)
 
 pub one-more-spec : {M : Type 1} → statement M
-one-more-spec = tie.close (tie.spec returns returns-2 add-result returns-3)
+one-more-spec = tie.close (tie.spec returns returns-2 (λ c. search needs) returns-3)

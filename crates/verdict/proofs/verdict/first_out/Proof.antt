@@ -21,20 +21,11 @@ loop-holds : tie.Need-loop-holds Inv-loop μ-loop
 unfolding firstBelow
 loop-holds c = (omega arith, refl)
 
-in-range-requires : tie.Need-in-range-requires Inv-loop μ-loop
-in-range-requires c κs = search needs
-
 returns : tie.Need-returns Inv-loop μ-loop
 unfolding firstOut
 returns c =
     let l = c .before .before .before .loop in
     sym (first-found _ _ (l .i) (l .inv .1) (rw (← c .before .in-range .ensures) (c .if1 .taken)) (c .before .before .loop-test .taken))
-
-add-i : tie.Need-add-i Inv-loop μ-loop
-add-i c = search needs
-
-loop-less : tie.Need-loop-less Inv-loop μ-loop
-loop-less c = search needs
 
 loop-again : tie.Need-loop-again Inv-loop μ-loop
 loop-again c =
@@ -55,9 +46,9 @@ first-out-spec =
     Inv-loop
     μ-loop
     loop-holds
-    in-range-requires
+    (λ c κs. search needs)
     returns
-    add-i
-    loop-less
+    (λ c. search needs)
+    (λ c. search needs)
     loop-again
     returns-2)

@@ -5,24 +5,6 @@ use Rattle.verdict.specs.Verdict.{inRange}
 use Rattle.verdict.proofs.verdict.in_range.Statement.{statement}
 use Rattle.verdict.proofs.verdict.in_range.Tie as tie
 
-shared-slice-read-b : tie.Need-shared-slice-read-b
-shared-slice-read-b c = search needs
-
-enum-told : tie.Need-enum-told
-enum-told c = search needs
-
-enum-known-rule : tie.Need-enum-known-rule
-enum-known-rule c = search needs
-
-enum-told-2 : tie.Need-enum-told-2
-enum-told-2 c = search needs
-
-enum-told-3 : tie.Need-enum-told-3
-enum-told-3 c = search needs
-
-enum-told-4 : tie.Need-enum-told-4
-enum-told-4 c = search needs
-
 -- a column
 returns : tie.Need-returns
 unfolding inRange when_then_else_
@@ -33,12 +15,6 @@ returns-2 : tie.Need-returns-2
 unfolding inRange when_then_else_
 returns-2 c = rw (c .before .before .enum-told4 .given .1, c .if3 .taken)
 
-enum-told-5 : tie.Need-enum-told-5
-enum-told-5 c = search needs
-
-enum-told-6 : tie.Need-enum-told-6
-enum-told-6 c = search needs
-
 -- a pin
 returns-3 : tie.Need-returns-3
 unfolding inRange when_then_else_
@@ -48,12 +24,6 @@ returns-3 c = rw (c .before .enum-told6 .given .1, c .if4 .taken)
 returns-4 : tie.Need-returns-4
 unfolding inRange when_then_else_
 returns-4 c = rw (c .before .before .enum-told6 .given .1, c .if5 .taken)
-
-shared-slice-read-result : tie.Need-shared-slice-read-result
-shared-slice-read-result c = search needs
-
-config-allowed-requires : tie.Need-config-allowed-requires
-config-allowed-requires c κs = search needs
 
 -- free data
 returns-5 : tie.Need-returns-5
@@ -99,20 +69,20 @@ pub in-range-spec : {M : Type 1} → statement M
 in-range-spec =
     tie.close
     (tie.spec
-    shared-slice-read-b
-    enum-told
-    enum-known-rule
-    enum-told-2
-    enum-told-3
-    enum-told-4
+    (λ c. search needs)
+    (λ c. search needs)
+    (λ c. search needs)
+    (λ c. search needs)
+    (λ c. search needs)
+    (λ c. search needs)
     returns
     returns-2
-    enum-told-5
-    enum-told-6
+    (λ c. search needs)
+    (λ c. search needs)
     returns-3
     returns-4
-    shared-slice-read-result
-    config-allowed-requires
+    (λ c. search needs)
+    (λ c κs. search needs)
     returns-5
     returns-6
     returns-7

@@ -8,15 +8,6 @@ returns : tie.Need-returns
 unfolding isReboot
 returns c = rw (ne-eqb _ _ (c .if1 .taken))
 
-shared-slice-read-result : tie.Need-shared-slice-read-result
-shared-slice-read-result c = search needs
-
-shared-slice-read-result-2 : tie.Need-shared-slice-read-result-2
-shared-slice-read-result-2 c = search needs
-
-shared-slice-read-result-3 : tie.Need-shared-slice-read-result-3
-shared-slice-read-result-3 c = search needs
-
 returns-2 : tie.Need-returns-2
 unfolding isReboot
 returns-2 c = rw (eq-eqb _ _ (c .before .before .before .if1 .left))
@@ -26,7 +17,7 @@ is-reboot-spec =
     tie.close
     (tie.spec
     returns
-    shared-slice-read-result
-    shared-slice-read-result-2
-    shared-slice-read-result-3
+    (λ c. search needs)
+    (λ c. search needs)
+    (λ c. search needs)
     returns-2)

@@ -31,30 +31,6 @@ returns c =
     let empty : length d ≤ 0 = omega arith in
     sym (fits d (omega (arith, List·getD-eq-default d 0 empty)))
 
-shared-slice-read-wide : tie.Need-shared-slice-read-wide
-shared-slice-read-wide c = search needs
-
-wide-requires : tie.Need-wide-requires
-wide-requires c κs = search needs
-
-at-most-requires : tie.Need-at-most-requires
-at-most-requires c κs = search needs
-
-sub-text : tie.Need-sub-text
-sub-text c = search needs
-
-add-if2 : tie.Need-add-if2
-add-if2 c = search needs
-
-at-most-requires-2 : tie.Need-at-most-requires-2
-at-most-requires-2 c κs = search needs
-
-sub-t11 : tie.Need-sub-t11
-sub-t11 c = search needs
-
-cast-t12 : tie.Need-cast-t12
-cast-t12 c = search needs
-
 returns-2 : tie.Need-returns-2
 returns-2 c =
     let d = c .before .before .before .before .before .before .before .args .content .now in
@@ -68,13 +44,13 @@ past-column-19-spec =
     tie.close
     (tie.spec
     returns
-    shared-slice-read-wide
-    wide-requires
-    at-most-requires
-    sub-text
-    add-if2
-    at-most-requires-2
-    sub-t11
-    cast-t12
+    (λ c. search needs)
+    (λ c κs. search needs)
+    (λ c κs. search needs)
+    (λ c. search needs)
+    (λ c. search needs)
+    (λ c κs. search needs)
+    (λ c. search needs)
+    (λ c. search needs)
     returns-2
     returns-3)

@@ -21,9 +21,6 @@ fits c = record {
 at-most-22 : (c : tie.Else3) → length (c .before .before .before .before .before .before .before .before .args .content .now) ≤ 22
 at-most-22 c = omega (arith, fits c .few, longest-22 _ (c .before .before .before .before .before .before .look .ensures))
 
-look-requires : tie.Need-look-requires
-look-requires c κs = search needs
-
 returns : tie.Need-returns
 returns c = judged _ (c .before .before .look .ensures) (no-command (not-true _ (c .if1 .taken)))
 
@@ -32,12 +29,6 @@ returns-2 c =
     let k = not-false _ (c .before .before .if1 .left) in
     judged _ (c .before .before .before .before .look .ensures)
     (⊎-elim (λ w. short k (w .taken)) (λ w. long k (ltb-true _ _ (w .2 .taken))) (c .if2 .came))
-
-first-out-requires : tie.Need-first-out-requires
-first-out-requires c κs = search needs
-
-add-t13 : tie.Need-add-t13
-add-t13 c = search needs
 
 cast-t14 : tie.Need-cast-t14
 cast-t14 c = omega (arith, at-most-22 (c .before .before))
@@ -60,11 +51,11 @@ pub verdict-on-spec : {M : Type 1} → statement M
 verdict-on-spec =
     tie.close
     (tie.spec
-    look-requires
+    (λ c κs. search needs)
     returns
     returns-2
-    first-out-requires
-    add-t13
+    (λ c κs. search needs)
+    (λ c. search needs)
     cast-t14
     returns-3
     whole-requires

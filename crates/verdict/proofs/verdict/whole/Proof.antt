@@ -28,18 +28,6 @@ others Place d k = absurd (miss rest 4 tt k)
 others Reboot d k = absurd (miss rest 5 tt k)
 others Pin d k = refl
 
-enum-told : tie.Need-enum-told
-enum-told c = search needs
-
-past-column-19-requires : tie.Need-past-column-19-requires
-past-column-19-requires c κs = search needs
-
-enum-told-2 : tie.Need-enum-told-2
-enum-told-2 c = search needs
-
-is-reboot-requires : tie.Need-is-reboot-requires
-is-reboot-requires c κs = search needs
-
 returns : tie.Need-returns
 unfolding wholeVerdict
 returns c = rw (c .before .before .enum-told2 .given .1) (sym (when-true _ _ _ (sym (c .before .is-reboot .ensures) ∙ c .if1 .taken)))
@@ -59,10 +47,10 @@ pub whole-spec : {M : Type 1} → statement M
 whole-spec =
     tie.close
     (tie.spec
-    enum-told
-    past-column-19-requires
-    enum-told-2
-    is-reboot-requires
+    (λ c. search needs)
+    (λ c κs. search needs)
+    (λ c. search needs)
+    (λ c κs. search needs)
     returns
     returns-2
     returns-3

@@ -1,0 +1,3 @@
+pub mod LineCalls
+pub mod Theorems
+pub mod Ways

@@ -1,6 +1,0 @@
-pub mod Laid
-pub mod Records
-pub mod Stands
-pub mod ReadBack
-pub mod WrittenBack
-pub mod Theorems

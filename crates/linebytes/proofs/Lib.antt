@@ -1,0 +1,4 @@
+pub mod Filed
+pub mod OnState
+pub mod Theorems
+pub mod Together

@@ -1,0 +1,65 @@
+use Prim.Native.Nat.{ℕ}
+use mathlib.Core.Path.{sym, _∙_}
+use lib.ListN.{length}
+use Rattle.calls.specs.Line.{lent}
+use Rattle.statebytes.proofs.Theorems.{line-sized}
+use Rattle.linebytes.specs.Line.{recordsIn}
+use Rattle.linebytes.proofs.Together.{refused-line, turned-down-line, carried-out-line}
+use borrow.Author.Needs.{needs, length-unmapped}
+use Rattle.linebytes.proofs.line.Statement.{statement}
+use Rattle.linebytes.proofs.line.Tie as tie
+
+returns : tie.Need-returns
+returns c =
+    let a = c .before .before .before .before .before .before .before .before .before .before .before .before .before .before .before .before .before .before .before .before .before .before .before .before .before .before .before .before .before .before .before .before .before .before .before .args in
+    let f = a .faults .now in
+    let l = lent (a .piece .now) (a .picture .now) (a .font .now) (a .list .now) (a .reply .now) (recordsIn (length f)) in
+    let checks = rw (c .before .before .before .before .before .before .before .before .before .before .before .before .before .before .before .before .before .before .before .before .before .before .before .before .before .before .in-ranges .ensures, c .before .before .before .before .before .before .before .before .before .before .before .before .before .before .before .before .before .before .before .before .before .before .before .before .before .records-in .ensures) at (c .before .before .before .before .before .before .before .before .before .before .before .before .before .before .before .before .before .before .before .before .before .before .before .before .checked .ensures) in
+    let heard = rw (c .before .before .before .before .before .before .before .before .before .before .before .before .before .before .before .before .before .before .before .before .read-line .ensures) at (c .before .before .before .before .before .before .before .before .before .before .before .before .before .before .before .before .before .before .hear .ensures) in
+    carried-out-line (a .state .now) l f (sym checks ∙ c .before .before .before .before .before .before .before .before .before .before .before .before .before .before .before .before .before .before .before .before .before .before .enum-told .given .1) heard (sym (c .before .before .before .before .before .before .before .before .before .before .before .before .before .before .before .is-done .ensures) ∙ c .before .before .before .before .before .before .before .before .before .before .before .before .before .before .if1 .taken) (c .before .before .before .before .before .before .before .before .carried-out .ensures)
+
+returns-2 : tie.Need-returns-2
+returns-2 c =
+    let a = c .before .before .before .before .before .before .before .before .before .before .before .before .before .before .before .before .args in
+    let f = a .faults .now in
+    let l = lent (a .piece .now) (a .picture .now) (a .font .now) (a .list .now) (a .reply .now) (recordsIn (length f)) in
+    let checks = rw (c .before .before .before .before .before .before .before .in-ranges .ensures, c .before .before .before .before .before .before .records-in .ensures) at (c .before .before .before .before .before .checked .ensures) in
+    refused-line (a .state .now) l f _ (sym checks ∙ c .before .before .before .check .given .1) (c .refused .ensures)
+
+returns-3 : tie.Need-returns-3
+returns-3 c =
+    let a = c .before .before .before .before .before .before .before .before .before .before .before .before .before .before .before .before .before .before .before .before .before .before .before .before .before .before .before .before .before .args in
+    let f = a .faults .now in
+    let l = lent (a .piece .now) (a .picture .now) (a .font .now) (a .list .now) (a .reply .now) (recordsIn (length f)) in
+    let checks = rw (c .before .before .before .before .before .before .before .before .before .before .before .before .before .before .before .before .before .before .before .before .in-ranges .ensures, c .before .before .before .before .before .before .before .before .before .before .before .before .before .before .before .before .before .before .before .records-in .ensures) at (c .before .before .before .before .before .before .before .before .before .before .before .before .before .before .before .before .before .before .checked .ensures) in
+    let heard = rw (c .before .before .before .before .before .before .before .before .before .before .before .before .before .before .read-line .ensures) at (c .before .before .before .before .before .before .before .before .before .before .before .before .hear .ensures) in
+    let q = c .before .before .before .before .before .before .before .before .before .before .before .before .hear in
+    let size = length-unmapped ℕ (q .result .line .hold .bytes) 25 (q .ok .1 .1 .0 .1 .1 .0 .1 .1 .0 .1 .0 .1) in
+    turned-down-line (a .state .now) l f (sym checks ∙ c .before .before .before .before .before .before .before .before .before .before .before .before .before .before .before .before .enum-told .given .1) heard (sym (c .before .before .before .before .before .before .before .before .before .is-done .ensures) ∙ c .before .before .before .before .before .before .before .before .if1 .left) (λ (k : ℕ). c .before .before .before .before .before .before .before .before .before .before .before .before .before .before .before .before .before .before .before .before .before .before .before .before .before .before .before .before .slice-known .given k .fits) (line-sized (q .result .line) size) (c .before .before .before .before .turned-down .ensures)
+
+pub line-spec : {M : Type 1} → statement M
+line-spec =
+    tie.close
+    (tie.spec
+    (λ c κs. search needs)
+    (λ c κs. search needs)
+    (λ c κs. search needs)
+    (λ c. search needs)
+    (λ c κs. search needs)
+    (λ c. search needs)
+    (λ c κs. search needs)
+    (λ c κs. search needs)
+    (λ c κs. search needs)
+    (λ c κs. search needs)
+    (λ c. search needs)
+    (λ c. search needs)
+    (λ c. search needs)
+    (λ c. search needs)
+    returns
+    (λ c κs. search needs)
+    (λ c. search needs)
+    returns-2
+    (λ c. search needs)
+    (λ c. search needs)
+    (λ c. search needs)
+    returns-3)

@@ -1,0 +1,106 @@
+// The line call over lent bytes: the body is read only where a command is performed, the register only where a packet is refused.
+ghost use mathlib.Core.Path.{_≡_};
+ghost use lib.ListN.{length};
+ghost use Rattle.calls.specs.Line.{lent};
+ghost use Rattle.linebytes.specs.Line.{recordsIn, FilesBytes, TurnsDown, CarriesOut, LineBytes};
+use answers::Answer;
+use answers::Checked;
+use filing::RECORDS;
+use listen::Heard;
+use listen::Sizes;
+use panel::state::Line;
+use registerbytes::REGISTER;
+
+// How many records so many bytes are; 0 where they are no register.
+fn records_in(size: usize) -> usize
+    ensures { λ r. ⌜ r ≡ recordsIn size ⌝ }
+{
+    if size == REGISTER { RECORDS } else { 0 }
+}
+
+// Files the answer's refusal, if it is one, and returns the unfiled number.
+fn file(faults: &mut [u8], answer: Answer, unfiled: u32) -> u32
+    ensures { λ r. ⌜ FilesBytes answer unfiled (now (faults .entry)) r (now (faults .exit)) ⌝ }
+{
+    let f = answers::to_file(answer);
+    if !f.refused {
+        return unfiled;
+    }
+    let records = registerbytes::read(faults);
+    let r = register::run::file_in(records, f.refused, f.key, unfiled);
+    let left = r.register;
+    registerbytes::write(faults, left);
+    r.unfiled
+}
+
+// The end of a line call that performs nothing: of the state only the line's part changes, and nothing where the call is
+// refused by number.
+fn turned_down(state: &mut [u8], h: Heard, faults: &mut [u8], said: &mut [u8; 16]) -> u8
+    ensures { λ r. ⌜ TurnsDown (now (state .entry)) h (now (faults .entry)) r (now (state .exit)) (now (faults .exit)) (now (said .exit)) ⌝ }
+{
+    let answer = h.answer;
+    let n = answers::told(answer);
+    let unfiled = file(faults, answer, h.line.unfiled);
+    saidbytes::write(said, n, h.counts, h.reply, 0);
+    if n.number < 10 {
+        let line = h.line;
+        statebytes::writes::write_line(state, Line { unfiled, ..line });
+    }
+    n.number
+}
+
+// The end of a line call whose command is performed.
+fn carried_out(
+    state: &mut [u8],
+    h: Heard,
+    picture: &mut [u8],
+    font: &[u8],
+    list: &mut [u8],
+    reply: &mut [u8],
+    said: &mut [u8; 16],
+) -> u8
+    ensures { λ r. ⌜ CarriesOut (now (state .entry)) h (now (picture .entry)) (now (font .entry)) (now (list .entry)) (now (reply .entry)) r (now (state .exit)) (now (picture .exit)) (now (list .exit)) (now (reply .exit)) (now (said .exit)) ⌝ }
+{
+    let before = statebytes::reads::read_body(state);
+    let d = perform::perform(before, h.packet, picture, font, list, reply);
+    let line = h.line;
+    let body = d.body;
+    statebytes::writes::write(state, line, body);
+    let answer = h.answer;
+    let n = answers::told(answer);
+    saidbytes::write(said, n, h.counts, d.reply, d.listed);
+    n.number
+}
+
+// A piece of the line. A call that is refused by number ends before the line's part is read.
+pub fn line(
+    state: &mut [u8],
+    piece: &[u8],
+    picture: &mut [u8],
+    font: &[u8],
+    list: &mut [u8],
+    reply: &mut [u8],
+    faults: &mut [u8],
+    said: &mut [u8; 16],
+) -> u8
+    ensures { λ r. ⌜ LineBytes (now (state .entry)) (lent (now (piece .entry)) (now (picture .entry)) (now (font .entry)) (now (list .entry)) (now (reply .entry)) (recordsIn (length (now (faults .entry))))) (now (faults .entry)) r (now (state .exit)) (now (picture .exit)) (now (list .exit)) (now (reply .exit)) (now (faults .exit)) (now (said .exit)) ⌝ }
+{
+    let in_ranges = statebytes::reads::in_ranges(state);
+    let sizes = Sizes {
+        picture: picture.len(),
+        font: font.len(),
+        list: list.len(),
+        records: records_in(faults.len()),
+    };
+    match listen::checked(in_ranges, piece.len(), sizes, reply.len()) {
+        Checked::Fails(check) => saidbytes::refused(said, check),
+        Checked::Passes => {
+            let h = listen::hear(statebytes::reads::read_line(state), piece, reply);
+            let answer = h.answer;
+            if answers::is_done(answer) {
+                return carried_out(state, h, picture, font, list, reply, said);
+            }
+            turned_down(state, h, faults, said)
+        }
+    }
+}

@@ -1,3 +1,0 @@
-pub mod OnState
-pub mod Together
-pub mod Theorems

@@ -1,7 +1,0 @@
-pub mod Changes
-pub mod Codes
-pub mod Paints
-pub mod Places
-pub mod Sizes
-pub mod Theorems
-pub mod Turns

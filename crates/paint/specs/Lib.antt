@@ -1,2 +1,0 @@
-pub mod Draw
-pub mod Repaint

@@ -1,0 +1,47 @@
+// What a call says, as 16 bytes.
+ghost use Rattle.saidbytes.specs.Says.{Says, SaysRefused};
+use answers::Answer;
+use answers::Check;
+use answers::Numbers;
+use framing::scan::Counts;
+
+// How many bytes it takes.
+pub const SAID: usize = 16;
+
+// The numbers of the answer, the counts, the reply's length and how many cells are listed.
+pub fn write(said: &mut [u8; 16], n: Numbers, c: Counts, reply: usize, listed: usize)
+    ensures { λ r. ⌜ Says n c reply listed (now (said .exit)) ⌝ }
+{
+    *said = [
+        n.number,
+        n.command,
+        n.reason,
+        n.place,
+        (c.taken % 256) as u8,
+        (c.taken / 256 % 256) as u8,
+        (c.dropped % 256) as u8,
+        (c.dropped / 256 % 256) as u8,
+        (c.checked % 256) as u8,
+        (c.checked / 256 % 256) as u8,
+        (c.checked / 65536 % 256) as u8,
+        (c.checked / 16777216 % 256) as u8,
+        (reply % 256) as u8,
+        (listed % 256) as u8,
+        0,
+        0,
+    ];
+}
+
+// A call that is refused by number: nothing is changed, and all counts are 0.
+pub fn refused(said: &mut [u8; 16], check: Check) -> u8
+    ensures { λ r. ⌜ SaysRefused check r (now (said .exit)) ⌝ }
+{
+    let n = answers::told(Answer::CallRefused(check));
+    let none = Counts {
+        taken: 0,
+        dropped: 0,
+        checked: 0,
+    };
+    write(said, n, none, 0, 0);
+    n.number
+}

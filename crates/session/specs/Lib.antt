@@ -1,0 +1,2 @@
+pub mod Font
+pub mod Calls

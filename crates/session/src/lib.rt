@@ -1,0 +1,79 @@
+// What the programs share: the calls on standard input's bytes until each piece waits for more, and what is told of them.
+ghost use mathlib.Core.Path.{_≡_};
+ghost use Rattle.tally.specs.Sums.{sumOf};
+ghost use Rattle.session.specs.Calls.{CallsOn};
+use libc::STDIN_FILENO;
+use tally::kept::Session;
+use tally::kept::WAITING;
+use tally::kept::held;
+use tally::kept::stepped;
+use tally::kept::with_call;
+use tally::kept::with_piece;
+use tally::told::told;
+
+pub mod font;
+pub mod sizes;
+
+// Reads a piece where the last call waited: a read brings what has arrived and does not wait for a full buffer. A failed read
+// is not taken for the end of the input.
+fn supplied(s: Session, piece: &mut [u8]) -> Session
+    ensures { λ r. ⌜ r .steps ≡ s .steps ⌝ }
+{
+    if s.call.number != WAITING {
+        return s;
+    }
+    let got = libc::read(STDIN_FILENO, piece);
+    with_piece(s, io::count(got, piece), got < 0)
+}
+
+// The call on what is left of the piece.
+pub fn call(
+    s: Session,
+    piece: &[u8],
+    state: &mut [u8],
+    picture: &mut [u8],
+    font: &[u8],
+    list: &mut [u8],
+    reply: &mut [u8],
+    faults: &mut [u8],
+    said: &mut [u8; 16],
+) -> Session
+    ensures { λ r. ⌜ CallsOn s (now (piece .entry)) (now (font .entry)) (now (state .entry)) (now (picture .entry)) (now (list .entry)) (now (reply .entry)) (now (faults .entry)) r (now (state .exit)) (now (picture .exit)) (now (list .exit)) (now (reply .exit)) (now (faults .exit)) (now (said .exit)) ⌝ }
+{
+    let before = held(state);
+    let end = lists::at_most(s.end, piece.len());
+    let at = lists::at_most(s.at, end);
+    naupelys::naupelys_line(
+        state,
+        &piece[at..end],
+        picture,
+        font,
+        list,
+        reply,
+        faults,
+        said,
+    );
+    with_call(s, at, before, told(said))
+}
+
+// The next call: on what is left of the piece, or, where the last one waited, on a piece that is read first. A packet's call
+// is followed by one that goes on behind it, so that a piece is called on until it waits.
+pub fn step(
+    s: Session,
+    piece: &mut [u8],
+    state: &mut [u8],
+    picture: &mut [u8],
+    font: &[u8],
+    list: &mut [u8],
+    reply: &mut [u8],
+    faults: &mut [u8],
+    said: &mut [u8; 16],
+) -> Session
+    ensures { λ r. ⌜ r .steps ≡ sumOf (s .steps) 1 ⌝ }
+{
+    let t = supplied(stepped(s), piece);
+    if t.over {
+        return t;
+    }
+    call(t, piece, state, picture, font, list, reply, faults, said)
+}

@@ -1,0 +1,5 @@
+pub mod Numbers
+pub mod Rows
+pub mod Laid
+pub mod Laws
+pub mod Theorems

@@ -1,0 +1,19 @@
+use Rattle.shapes.proofs.Laws.{then-lays}
+use borrow.Author.Needs.{needs}
+use Rattle.statebytes.proofs.writes.lay_body.Statement.{statement}
+use Rattle.statebytes.proofs.writes.lay_body.Tie as tie
+
+returns : tie.Need-returns
+returns c = search then-lays depth 20
+
+pub lay-body-spec : {M : Type 1} → statement M
+lay-body-spec =
+    tie.close
+    (tie.spec
+    (λ c κs. search needs)
+    (λ c κs. search needs)
+    (λ c κs. search needs)
+    (λ c κs. search needs)
+    (λ c κs. search needs)
+    (λ c. search needs)
+    returns)

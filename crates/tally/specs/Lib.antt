@@ -1,0 +1,4 @@
+pub mod Sums
+pub mod Told
+pub mod Text
+pub mod Session

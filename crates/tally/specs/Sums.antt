@@ -1,0 +1,42 @@
+-- What is added up from call to call.
+use Prim.Native.Nat.{ℕ, _+_, _-_, min}
+use mathlib.Core.Path.{_≡_}
+use Rattle.lists.specs.Tests.{when_then_else_, _<?_}
+use Rattle.tally.specs.declared.sums.Sums.{Sums}
+use Rattle.tally.specs.declared.told.CallTold.{CallTold}
+
+-- the largest number of 64 bits
+abbrev pub largest : ℕ
+largest = 18446744073709551615
+
+-- a sum that stops there
+abbrev pub sumOf : ℕ → ℕ → ℕ
+sumOf a b = min (a + b) largest
+
+-- where a packet begins: the first byte that was still held, and then what the call dropped before it
+abbrev pub offsetOf : ℕ → ℕ → ℕ → ℕ
+offsetOf taken held dropped = sumOf (taken - held) dropped
+
+-- an answer above 1, waiting, is a packet's
+unfoldable pub packetsBy : ℕ → ℕ
+packetsBy number = when 1 <? number then 1 else 0
+
+abbrev pub sumsWith : Sums → ℕ → CallTold → Sums
+sumsWith s held c =
+    record {
+      events = sumOf (s .events) (packetsBy (c .number));
+      offset = offsetOf (s .taken) held (c .dropped);
+      taken = sumOf (s .taken) (c .taken);
+      dropped = sumOf (s .dropped) (c .dropped);
+      checked = sumOf (s .checked) (c .checked);
+    }
+
+-- what `sum`, `offset` and `with_call` promise
+abbrev pub Sum : ℕ → ℕ → ℕ → Type 0
+Sum a b r = r ≡ sumOf a b
+
+abbrev pub Offset : ℕ → ℕ → ℕ → ℕ → Type 0
+Offset taken held dropped r = r ≡ offsetOf taken held dropped
+
+abbrev pub SumsCall : Sums → ℕ → CallTold → Sums → Type 0
+SumsCall s held c r = r ≡ sumsWith s held c

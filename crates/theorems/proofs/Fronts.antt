@@ -1,0 +1,17 @@
+-- What is written to the front of a buffer stands there, and the bytes behind keep their values.
+use Prim.Native.Nat.{ℕ, _+_, _-_, _<_, _≤_}
+use mathlib.Core.Path.{_≡_, _∙_}
+use mathlib.Core.List.{List}
+use native.Mathlib.Omega.{arith}
+use lib.ListN.{length, drop, getD, List·getD-append}
+use lib.Seq.{getD-append-add, getD-drop}
+use Rattle.lists.specs.Runs.{front}
+
+module _ (run o : List ℕ) where
+  pub front-own : (i : ℕ) → i < length run → getD (front run o) i 0 ≡ getD run i 0
+  front-own i h = List·getD-append run (drop (length run) o) 0 i h
+
+  pub front-behind : (i : ℕ) → length run ≤ i → getD (front run o) i 0 ≡ getD o i 0
+  front-behind i h =
+      let e : length run + (i - length run) ≡ i = omega arith in
+      rw (← e) (getD-append-add run (drop (length run) o) (i - length run) 0 ∙ getD-drop (length run) o (i - length run) 0)

@@ -1,2 +1,0 @@
-pub mod LineCalls
-pub mod Theorems
