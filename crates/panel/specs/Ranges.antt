@@ -35,7 +35,7 @@ masksInRange m = (m .press ≤? 63) && (m .release ≤? 63)
 abbrev pub configsInRange : List ℕ → Bool
 configsInRange configs = all configAllowed configs
 
--- the same with the rows of command 9 and the pins of command 34
+-- all of settings: these, the rows of command 9 and the pins' levels of command 34
 unfoldable pub partsInRange : List ℕ → Cursor → Dials → Masks → List ℕ → List ℕ → Bool
 partsInRange glyphs cursor dials masks levels configs =
     allAtMost 63 glyphs && cursorInRange cursor && dialsInRange dials && masksInRange masks && allAtMost 100 levels && configsInRange configs

@@ -43,7 +43,7 @@ pub record SaidFits (c : Counts) (r l : ℕ) : Type 0 where
   pub reply : r < 256
   pub listed : l < 256
 
--- the same of what a call returns
+-- the number that a call gives, and its 16 bytes
 abbrev pub numberOf : Said → ℕ
 numberOf s = numbersOf (s .answer) .number
 
