@@ -7,7 +7,7 @@ use Rattle.panel.specs.declared.state.Panel.{Panel}
 use Rattle.answers.specs.declared.Answer.{Answer}
 use Rattle.answers.specs.declared.Check.{Check}
 use Rattle.answers.specs.declared.Checked.{Checked}
-use Rattle.answers.specs.Answer.{Tells, TellsDone, Hands, Refuses, Accepts}
+use Rattle.answers.specs.Answer.{Tells, TellsDone, Hands, TakesNothing}
 use Rattle.answers.specs.Checks.{Checks}
 
 pub told-determined : (answer : Answer) → Determined (Tells answer)
@@ -22,8 +22,5 @@ is-done-determined answer = one _
 pub also-determined : (c : Checked) (passes : Bool) (check : Check) → Determined (Checks c passes check)
 also-determined c passes check = one _
 
-pub refused-call-determined : (p : Panel) (check : Check) → Determined (Refuses p check)
-refused-call-determined p check = one _
-
-pub accepted-call-determined : (p : Panel) (reply : ℕ) → Determined (Accepts p reply)
-accepted-call-determined p reply = one _
+pub nothing-taken-determined : (p : Panel) (answer : Answer) (reply : ℕ) → Determined (TakesNothing p answer reply)
+nothing-taken-determined p answer reply = one _

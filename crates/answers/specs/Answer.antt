@@ -93,10 +93,6 @@ TellsDone a r = r ≡ isDone a
 abbrev pub Hands : Answer → Filing → Type 0
 Hands a r = r ≡ filingOf a
 
--- what `refused_call` promises
-abbrev pub Refuses : Panel → Check → Said → Type 0
-Refuses p check r = r ≡ refusedCall p check
-
--- what `accepted_call` promises
-abbrev pub Accepts : Panel → ℕ → Said → Type 0
-Accepts p reply r = r ≡ acceptedCall p reply
+-- what `nothing_taken` promises
+abbrev pub TakesNothing : Panel → Answer → ℕ → Said → Type 0
+TakesNothing p a reply r = r ≡ nothingTaken p a reply

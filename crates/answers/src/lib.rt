@@ -1,6 +1,6 @@
 // What a call says.
 ghost use mathlib.Core.Path.{_≡_};
-ghost use Rattle.answers.specs.Answer.{checkNumber, Tells, Hands, TellsDone, nothingTaken, Refuses, Accepts};
+ghost use Rattle.answers.specs.Answer.{checkNumber, Tells, Hands, TellsDone, TakesNothing};
 ghost use Rattle.answers.specs.Checks.{Checks};
 use filing::Refusal;
 use framing::scan::Counts;
@@ -149,8 +149,8 @@ pub fn to_file(answer: Answer) -> Filing
 }
 
 // A call that takes nothing of the line: all counts are 0, and no cell is listed.
-fn nothing_taken(p: Panel, answer: Answer, reply: usize) -> Said
-    ensures { λ r. ⌜ r ≡ nothingTaken p answer reply ⌝ }
+pub fn nothing_taken(p: Panel, answer: Answer, reply: usize) -> Said
+    ensures { λ r. ⌜ TakesNothing p answer reply r ⌝ }
 {
     let counts = Counts {
         taken: 0,
@@ -164,18 +164,4 @@ fn nothing_taken(p: Panel, answer: Answer, reply: usize) -> Said
         reply,
         listed: 0,
     }
-}
-
-// A call that is refused by number: nothing is changed.
-pub fn refused_call(p: Panel, check: Check) -> Said
-    ensures { λ r. ⌜ Refuses p check r ⌝ }
-{
-    nothing_taken(p, Answer::CallRefused(check), 0)
-}
-
-// A key, pin or power-on call that is accepted, with a reply of so many bytes.
-pub fn accepted_call(p: Panel, reply: usize) -> Said
-    ensures { λ r. ⌜ Accepts p reply r ⌝ }
-{
-    nothing_taken(p, Answer::Done(0), reply)
 }

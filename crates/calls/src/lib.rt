@@ -1,3 +1,2 @@
-// The calls of the whole panel by value: power-on, and the line call with the fault register lent to it.
+// The line call of the whole panel by value, with the fault register lent to it.
 pub mod line;
-pub mod power;

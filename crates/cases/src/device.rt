@@ -1,4 +1,5 @@
 // Cases of the whole panel, over the bytes that a C caller lends.
+use crate::buffers::Buffers;
 use crate::words::COUNT;
 use crate::words::FONT;
 use crate::words::HEADING;
@@ -16,104 +17,86 @@ use naupelys::naupelys_key;
 use naupelys::naupelys_line;
 use naupelys::naupelys_pin;
 use naupelys::naupelys_power_on;
-use tally::told::CallTold;
-use tally::told::told;
 
 // A case begins: the programs' font, the panel at power-on and an empty register.
-pub fn begin(state: &mut [u8], picture: &mut [u8], font: &mut [u8], faults: &mut [u8]) {
+pub fn begin() -> Buffers {
+    let mut state = [0u8; session::sizes::STATE];
+    let mut picture = [170u8; session::sizes::PICTURE];
     let mut said = [0u8; session::sizes::SAID];
-    let rows = session::font::program_font();
-    lists::paste(font, 0, &rows);
-    naupelys_power_on(state, picture, font, &mut said);
-    lists::paste(faults, 0, &[0u8; session::sizes::FAULTS]);
+    let font = font::program_font();
+    naupelys_power_on(&mut state, &mut picture, &font, &mut said);
+    Buffers {
+        state,
+        picture,
+        font,
+        faults: [0u8; session::sizes::FAULTS],
+        list: [0u8; session::sizes::LIST],
+        reply: [0u8; session::sizes::REPLY],
+        said,
+    }
+}
+
+// One line call over bytes.
+fn over_bytes(b: Buffers, piece: &[u8]) -> Buffers {
+    let mut state = b.state;
+    let mut picture = b.picture;
+    let mut faults = b.faults;
+    let mut list = b.list;
+    let mut reply = b.reply;
+    let mut said = b.said;
+    let font = b.font;
+    naupelys_line(
+        &mut state,
+        piece,
+        &mut picture,
+        &font,
+        &mut list,
+        &mut reply,
+        &mut faults,
+        &mut said,
+    );
+    Buffers {
+        state,
+        picture,
+        font,
+        faults,
+        list,
+        reply,
+        said,
+    }
 }
 
 // One line call, over bytes or by value.
-fn either(
-    by_value: bool,
-    state: &mut [u8],
-    piece: &[u8],
-    picture: &mut [u8],
-    font: &[u8],
-    list: &mut [u8],
-    reply: &mut [u8],
-    faults: &mut [u8],
-    said: &mut [u8; 16],
-) {
+fn either(by_value: bool, b: Buffers, piece: &[u8]) -> Buffers {
     if by_value {
-        crate::value::line(state, piece, picture, font, list, reply, faults, said);
-        return;
+        return crate::value::line(b, piece);
     }
-    naupelys_line(state, piece, picture, font, list, reply, faults, said);
+    over_bytes(b, piece)
 }
 
-// The call's line, unless it waits.
-fn call(
-    by_value: bool,
-    piece: &[u8],
-    state: &mut [u8],
-    picture: &mut [u8],
-    font: &[u8],
-    faults: &mut [u8],
-) -> CallTold {
-    let mut list = [0u8; session::sizes::LIST];
-    let mut reply = [0u8; session::sizes::REPLY];
-    let mut said = [0u8; session::sizes::SAID];
-    either(
-        by_value,
-        state,
-        piece,
-        picture,
-        font,
-        &mut list,
-        &mut reply,
-        faults,
-        &mut said,
-    );
-    let c = told(&said);
-    crate::show::line(c, &reply, &list);
-    c
-}
-
-// Calls until all is taken and the answer is waiting. By framing's `four-bytes-a-packet`, with at most 25 bytes held before,
-// there are no more calls than the loop allows; no call takes more than its piece.
-fn calls(
-    by_value: bool,
-    bytes: &[u8],
-    state: &mut [u8],
-    picture: &mut [u8],
-    font: &[u8],
-    faults: &mut [u8],
-) {
+// Calls until all is taken and the answer is waiting, with a line for each that does not wait. By framing's
+// `four-bytes-a-packet`, with at most 25 bytes held before, there are no more calls than the loop allows; no call takes more
+// than its piece.
+fn calls(by_value: bool, before: Buffers, bytes: &[u8]) -> Buffers {
+    let mut b = before;
     let mut at: usize = 0;
     for _ in 0..bytes.len() / 4 + 8 {
-        let c = call(by_value, &bytes[at..], state, picture, font, faults);
+        b = either(by_value, b, &bytes[at..]);
+        let c = crate::show::line(b);
         at += lists::at_most(c.taken as usize, bytes.len() - at);
         if (c.number < 2) | (4 < c.number) {
-            return;
+            return b;
         }
     }
-}
-
-fn heard(
-    by_value: bool,
-    line: &[u8],
-    state: &mut [u8],
-    picture: &mut [u8],
-    font: &[u8],
-    faults: &mut [u8],
-) {
-    let mut room = [0u8; 256];
-    let n = crate::text::bytes_of(line, &mut room);
-    calls(by_value, &room[0..n], state, picture, font, faults);
+    b
 }
 
 // A key pressed or released; "lend" presses it with a reply buffer of the size that stands behind the key.
 fn key(word: usize, line: &[u8], state: &mut [u8]) {
-    let mut reply = [0u8; 27];
-    let mut said = [0u8; session::sizes::SAID];
     let size = crate::wrong::reply_size(word, line);
     let number = crate::text::small(line) as u32;
+    let mut reply = [0u8; 27];
+    let mut said = [0u8; session::sizes::SAID];
     naupelys_key(
         state,
         number,
@@ -121,52 +104,65 @@ fn key(word: usize, line: &[u8], state: &mut [u8]) {
         &mut reply[0..size],
         &mut said,
     );
-    let c = told(&said);
     if word == LEND {
-        crate::show::call(c);
+        crate::show::call(&said);
     } else {
-        crate::show::key(c, &reply);
+        crate::show::key(&said, &reply);
     }
 }
 
-fn pin(line: &[u8], state: &mut [u8], high: bool) {
+// A pin that goes high, or low.
+fn pin(word: usize, line: &[u8], state: &mut [u8]) {
     let mut said = [0u8; session::sizes::SAID];
-    naupelys_pin(state, crate::text::small(line) as u32, high, &mut said);
-    crate::show::call(told(&said));
+    naupelys_pin(
+        state,
+        crate::text::small(line) as u32,
+        word == HIGH,
+        &mut said,
+    );
+    crate::show::call(&said);
 }
 
-// The eight rows of a code in the font that is lent from now on: nine bytes in hexadecimal, the code first.
-fn rows(line: &[u8], font: &mut [u8]) {
-    let mut room = [0u8; 9];
-    crate::text::bytes_of(line, &mut room);
-    lists::paste(font, 8 * lists::wide(room[0]), &room[1..9]);
+// The eight rows of a code in the font that is lent from now on: nine bytes, the code first.
+fn rows(b: Buffers, bytes: &[u8]) -> Buffers {
+    if bytes.len() == 0 {
+        return b;
+    }
+    let mut font = b.font;
+    lists::paste(&mut font, 8 * lists::wide(bytes[0]), &bytes[1..]);
+    let mut t = b;
+    t.font = font;
+    t
 }
 
-// A line of the script that changes what is lent.
-pub fn run(
-    word: usize,
-    line: &[u8],
-    state: &mut [u8],
-    picture: &mut [u8],
-    font: &mut [u8],
-    faults: &mut [u8],
-) {
+// A word that changes the state alone.
+fn on_state(word: usize, line: &[u8], state: &mut [u8]) {
+    match word {
+        PRESS | RELEASE | LEND => key(word, line, state),
+        HIGH | LOW => pin(word, line, state),
+        SIZES => crate::wrong::sizes(line, state),
+        SET | UNFILED => crate::wrong::set(word, line, state),
+        _ => {}
+    }
+}
+
+// What is lent after a line of the script that spells these bytes.
+pub fn run(word: usize, line: &[u8], bytes: &[u8], b: Buffers) -> Buffers {
     match word {
         HEADING => {
             crate::text::word(line);
-            crate::text::word(b"\n");
-            begin(state, picture, font, faults);
+            crate::text::end();
+            return begin();
         }
-        FONT => rows(line, font),
-        LINE => heard(false, line, state, picture, font, faults),
-        VALUE => heard(true, line, state, picture, font, faults),
-        COUNT => crate::wrong::count(line, faults),
-        PRESS | RELEASE | LEND => key(word, line, state),
-        HIGH => pin(line, state, true),
-        LOW => pin(line, state, false),
-        SIZES => crate::wrong::sizes(line, state),
-        SET => crate::wrong::set(line, state),
-        UNFILED => crate::wrong::unfiled(line, state),
+        LINE => return calls(false, b, bytes),
+        VALUE => return calls(true, b, bytes),
+        FONT => return rows(b, bytes),
+        COUNT => return crate::wrong::count(line, b),
         _ => {}
     }
+    let mut state = b.state;
+    on_state(word, line, &mut state);
+    let mut t = b;
+    t.state = state;
+    t
 }

@@ -1,4 +1,7 @@
 // Cases of the framing.
+use crate::text::byte;
+use crate::text::filled;
+use crate::text::word;
 use crate::words::COMPOSE;
 use crate::words::CUTS;
 use crate::words::HEADING;
@@ -39,15 +42,15 @@ fn with_call(s: Sums, r: Scanned) -> Sums {
 
 fn show_packet(p: Packet) {
     let content = p.content;
-    crate::text::word(b" [");
-    crate::text::byte(p.kind, true);
-    crate::text::bytes(b"", &content, 0, p.length, true);
-    crate::text::word(b"]");
+    word(b" [");
+    byte(p.kind, true);
+    crate::text::bytes(&content, 0, p.length, true);
+    word(b"]");
 }
 
 fn shown(r: Scanned, took: bool) {
     if took {
-        crate::text::filled(b" took %", &[r.counts.taken]);
+        filled(b" took %", &[r.counts.taken]);
     }
     if r.found {
         show_packet(r.packet);
@@ -74,7 +77,7 @@ fn calls(before: Sums, bytes: &[u8], took: bool) -> Sums {
 
 fn end(s: Sums) {
     let values = [s.dropped, s.checked, s.hold.count];
-    crate::text::filled(b"; dropped % checked % held %\n", &values);
+    filled(b"; dropped % checked % held %\n", &values);
 }
 
 // The bytes given to calls as they are, from what is held.
@@ -86,7 +89,7 @@ fn scan(before: Hold, bytes: &[u8]) -> Hold {
 
 // A line for bytes in two pieces, from nothing held.
 fn cut(at: usize, first: &[u8], rest: &[u8]) {
-    crate::text::filled(b"cut at %", &[at]);
+    filled(b"cut at %", &[at]);
     let nothing = from(packets::hold::empty());
     let s = calls(nothing, first, false);
     end(calls(s, rest, false));
@@ -103,14 +106,15 @@ fn compose(bytes: &[u8]) {
     let mut out = [0u8; 26];
     if 0 < bytes.len() {
         let n = packets::packet::compose(&mut out, bytes[0], &bytes[1..]);
-        crate::text::bytes(b"", &out, 0, n, true);
+        crate::text::bytes(&out, 0, n, true);
     }
-    crate::text::word(b"\n");
+    crate::text::end();
 }
 
-// What is held after a word with bytes.
-fn run_bytes(word: usize, bytes: &[u8], held: Hold) -> Hold {
-    match word {
+// What is held after a line of the script that spells these bytes.
+pub fn run(name: usize, bytes: &[u8], held: Hold) -> Hold {
+    match name {
+        HEADING => return packets::hold::empty(),
         SCAN => return scan(held, bytes),
         CUTS => cuts(bytes),
         COMPOSE => compose(bytes),
@@ -118,14 +122,4 @@ fn run_bytes(word: usize, bytes: &[u8], held: Hold) -> Hold {
         _ => {}
     }
     held
-}
-
-// What is held after a line of the script.
-pub fn run(word: usize, line: &[u8], held: Hold) -> Hold {
-    if word == HEADING {
-        return packets::hold::empty();
-    }
-    let mut room = [0u8; 256];
-    let n = crate::text::bytes_of(line, &mut room);
-    run_bytes(word, &room[0..n], held)
 }

@@ -10,6 +10,7 @@
 // register, "cell" a cell's bytes, "picture" the checksum of the whole picture. "sizes", "power" and "lend" try buffers of
 // other sizes; "set", "count" and "unfiled" set a value that no command sets, "font" a code's rows.
 
+mod buffers;
 mod device;
 mod frames;
 mod show;
@@ -19,7 +20,8 @@ mod words;
 mod wrong;
 
 // The cases, one line after the other.
-fn run(script: &[u8], state: &mut [u8], picture: &mut [u8], font: &mut [u8], faults: &mut [u8]) {
+fn run(script: &[u8]) {
+    let mut buffers = device::begin();
     let mut held = packets::hold::empty();
     let mut at: usize = 0;
     while at < script.len() {
@@ -27,25 +29,17 @@ fn run(script: &[u8], state: &mut [u8], picture: &mut [u8], font: &mut [u8], fau
         let line = &script[at..end];
         at = end + 1;
         let word = words::number(line);
-        held = frames::run(word, line, held);
-        device::run(word, line, state, picture, font, faults);
-        show::run(word, line, state, picture, faults);
+        let mut room = [0u8; 256];
+        let n = text::bytes_of(line, &mut room);
+        let bytes = &room[0..n];
+        held = frames::run(word, bytes, held);
+        buffers = device::run(word, line, bytes, buffers);
+        show::run(word, line, buffers);
     }
 }
 
 fn main() {
     let mut script = io::large_buffer();
     let n = io::read_full(libc::STDIN_FILENO, &mut script);
-    let mut font = [0u8; session::sizes::FONT];
-    let mut state = [0u8; session::sizes::STATE];
-    let mut picture = [170u8; session::sizes::PICTURE];
-    let mut faults = [0u8; session::sizes::FAULTS];
-    device::begin(&mut state, &mut picture, &mut font, &mut faults);
-    run(
-        &script[..n],
-        &mut state,
-        &mut picture,
-        &mut font,
-        &mut faults,
-    );
+    run(&script[..n]);
 }

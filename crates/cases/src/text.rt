@@ -54,18 +54,41 @@ pub fn word(s: &[u8]) {
     io::write_all(STDOUT_FILENO, s);
 }
 
+// The end of a line.
+pub fn end() {
+    word(b"\n");
+}
+
 // The text with the values in decimal in place of its % marks.
 pub fn filled(text: &[u8], values: &[usize]) {
     let mut at: usize = 0;
     let mut i: usize = 0;
-    while i < values.len() {
+    while at < text.len() {
         let end = until(text, at, b'%');
         word(&text[at..end]);
-        io::print_decimal(STDOUT_FILENO, values[i] as u64);
-        at = lists::at_most(end + 1, text.len());
+        if i < values.len() {
+            io::print_decimal(STDOUT_FILENO, values[i] as u64);
+        }
+        at = end + 1;
         i += 1;
     }
-    word(&text[at..]);
+}
+
+// The text with the bytes of `s` from a place on, in decimal, in place of its % marks.
+pub fn filled_from(text: &[u8], s: &[u8], place: usize)
+    requires { ⌜ place ≤ 1000 ⌝ }
+{
+    let mut at: usize = 0;
+    let mut i: usize = 0;
+    while at < text.len() {
+        let end = until(text, at, b'%');
+        word(&text[at..end]);
+        if end < text.len() {
+            byte(lists::at(s, place + i), false);
+        }
+        at = end + 1;
+        i += 1;
+    }
 }
 
 // A byte in hexadecimal or in decimal.
@@ -77,15 +100,12 @@ pub fn byte(b: u8, hex: bool) {
     }
 }
 
-// A word and `n` bytes from a place on, each behind a blank.
-pub fn bytes(before: &[u8], s: &[u8], place: usize, n: usize, hex: bool) {
-    word(before);
-    let mut i: usize = 0;
-    while i < s.len() {
-        if place <= i && i - place < n {
-            word(b" ");
-            byte(s[i], hex);
-        }
+// The bytes from one place up to another, each behind a blank.
+pub fn bytes(s: &[u8], from: usize, to: usize, hex: bool) {
+    let mut i = from;
+    while i < to {
+        word(b" ");
+        byte(lists::at(s, i), hex);
         i += 1;
     }
 }
@@ -94,7 +114,7 @@ pub fn bytes(before: &[u8], s: &[u8], place: usize, n: usize, hex: bool) {
 pub fn checksum(s: &[u8]) {
     word(b" ");
     io::print_hex(STDOUT_FILENO, fcs::checksum(s) as u64, 4);
-    word(b"\n");
+    end();
 }
 
 // Reading decimal numbers: how many were passed, whether a digit came last, and the value of the one that is wanted.

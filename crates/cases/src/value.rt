@@ -1,8 +1,12 @@
 // The line call by value: the call itself, over the panel and the records that the bytes say.
+use crate::buffers::Buffers;
 use answers::Said;
 use filing::RECORDS;
 use filing::Record;
 use panel::state::Panel;
+use session::sizes::LIST;
+use session::sizes::REPLY;
+use session::sizes::SAID;
 
 // What the call says, and the register after it.
 struct Called {
@@ -28,26 +32,61 @@ fn line_on(
     }
 }
 
-// The call, from the bytes and back to them.
-pub fn line(
-    state: &mut [u8],
-    piece: &[u8],
-    picture: &mut [u8],
-    font: &[u8],
-    list: &mut [u8],
-    reply: &mut [u8],
-    faults: &mut [u8],
-    said: &mut [u8; 16],
-) {
-    let p = statebytes::reads::read(state).panel;
-    let records = registerbytes::read(faults);
-    let c = line_on(p, piece, picture, font, list, reply, records);
-    let left = c.register;
-    registerbytes::write(faults, left);
-    let s = c.said;
-    let line = s.panel.line;
-    let body = s.panel.body;
-    statebytes::writes::write(state, line, body);
+// What the call says, as bytes.
+fn bytes_said(s: Said) -> [u8; SAID] {
+    let mut said = [0u8; SAID];
     let answer = s.answer;
-    saidbytes::write(said, answers::told(answer), s.counts, s.reply, s.listed);
+    saidbytes::write(
+        &mut said,
+        answers::told(answer),
+        s.counts,
+        s.reply,
+        s.listed,
+    );
+    said
+}
+
+// What the call leaves, as bytes: the panel and the records that it returns, and what it says.
+fn written(b: Buffers, c: Called) -> Buffers {
+    let mut t = b;
+    let mut state = b.state;
+    statewrites::write(&mut state, c.said.panel.line, c.said.panel.body);
+    t.state = state;
+    let mut faults = b.faults;
+    let left = c.register;
+    registerbytes::write(&mut faults, left);
+    t.faults = faults;
+    let said = bytes_said(c.said);
+    t.said = said;
+    t
+}
+
+// The panel that the state's bytes are.
+fn panel_in(b: Buffers) -> Panel {
+    Panel {
+        line: statebytes::line::read_line(&b.state),
+        body: statereads::read_body(&b.state),
+    }
+}
+
+// The call, from the bytes and back to them.
+pub fn line(b: Buffers, piece: &[u8]) -> Buffers {
+    let mut picture = b.picture;
+    let font = b.font;
+    let mut list = [0u8; LIST];
+    let mut reply = [0u8; REPLY];
+    let c = line_on(
+        panel_in(b),
+        piece,
+        &mut picture,
+        &font,
+        &mut list,
+        &mut reply,
+        registerbytes::read(&b.faults),
+    );
+    let mut t = b;
+    t.picture = picture;
+    t.list = list;
+    t.reply = reply;
+    written(t, c)
 }

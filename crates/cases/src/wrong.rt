@@ -1,7 +1,9 @@
 // Calls with buffers of other sizes, states that no command sets, and counts that no case could reach by refusals.
 ghost use Prim.Native.Nat.{_≤_};
+use crate::buffers::Buffers;
 use crate::text::decimal;
 use registerbytes::RECORD;
+use saidbytes::told::told;
 use statebytes::places::BOOT;
 use statebytes::places::CONTRAST;
 use statebytes::places::COUNT;
@@ -9,11 +11,16 @@ use statebytes::places::DOWN;
 use statebytes::places::LIVE;
 use statebytes::places::STYLE;
 use statebytes::places::UNFILED;
-use tally::told::told;
 
 // One line call on a piece of zeros, which hold no packet; the line tells, in order, the sizes of the piece, the picture, the
 // font, the list, the reply buffer and the register.
 pub fn sizes(line: &[u8], state: &mut [u8]) {
+    let a = decimal(line, 0, 4097);
+    let b = decimal(line, 1, 641);
+    let c = decimal(line, 2, 2049);
+    let d = decimal(line, 3, 81);
+    let e = decimal(line, 4, 27);
+    let f = decimal(line, 5, 65) * RECORD;
     let piece = [0u8; 4097];
     let mut screen = [0u8; 641];
     let font = [0u8; 2049];
@@ -21,12 +28,6 @@ pub fn sizes(line: &[u8], state: &mut [u8]) {
     let mut reply = [0u8; 27];
     let mut faults = [0u8; 455];
     let mut said = [0u8; session::sizes::SAID];
-    let a = decimal(line, 0, 4097);
-    let b = decimal(line, 1, 641);
-    let c = decimal(line, 2, 2049);
-    let d = decimal(line, 3, 81);
-    let e = decimal(line, 4, 27);
-    let f = decimal(line, 5, 65) * RECORD;
     naupelys::naupelys_line(
         state,
         &piece[..a],
@@ -37,7 +38,7 @@ pub fn sizes(line: &[u8], state: &mut [u8]) {
         &mut faults[..f],
         &mut said,
     );
-    crate::show::call(told(&said));
+    crate::show::call(&said);
 }
 
 fn drawn(screen: &[u8; 641]) {
@@ -49,14 +50,14 @@ fn drawn(screen: &[u8; 641]) {
 // Power-on with a picture and a font of the sizes that the line tells; the picture's checksum and the state show that a
 // refused one draws nothing and still returns the power-on state.
 pub fn power(line: &[u8]) {
+    let b = decimal(line, 0, 641);
+    let c = decimal(line, 1, 2049);
     let mut screen = [170u8; 641];
     let font = [0u8; 2049];
     let mut state = [0u8; session::sizes::STATE];
     let mut said = [0u8; session::sizes::SAID];
-    let b = decimal(line, 0, 641);
-    let c = decimal(line, 1, 2049);
     naupelys::naupelys_power_on(&mut state, &mut screen[..b], &font[..c], &mut said);
-    crate::show::call(told(&said));
+    crate::show::call(&said);
     drawn(&screen);
     crate::show::state(&state);
 }
@@ -71,9 +72,13 @@ pub fn reply_size(word: usize, line: &[u8]) -> usize
     26
 }
 
-// One value of the state set without a command: of the live settings the contrast, of the boot state the style, the keys
-// down, or how many bytes are held. Its first letter tells which.
-pub fn set(line: &[u8], state: &mut [u8]) {
+// One value of the state set without a command: the unfiled number, or by the first letter behind "set" the live settings'
+// contrast, the boot state's style, the keys down or how many bytes are held.
+pub fn set(word: usize, line: &[u8], state: &mut [u8]) {
+    if word == crate::words::UNFILED {
+        shapes::lay_word(state, UNFILED, decimal(line, 0, 4294967295) as u32);
+        return;
+    }
     let place = match lists::at(line, 4) {
         b'c' => LIVE + CONTRAST,
         b'b' => BOOT + STYLE,
@@ -83,13 +88,12 @@ pub fn set(line: &[u8], state: &mut [u8]) {
     shapes::lay_byte(state, place, crate::text::small(line));
 }
 
-// The unfiled number set.
-pub fn unfiled(line: &[u8], state: &mut [u8]) {
-    shapes::lay_word(state, UNFILED, decimal(line, 0, 4294967295) as u32);
-}
-
 // A record's count set: its number and the count, which stands behind command, reason and place.
-pub fn count(line: &[u8], faults: &mut [u8]) {
+pub fn count(line: &[u8], b: Buffers) -> Buffers {
     let place = decimal(line, 0, 63) * RECORD + 3;
-    shapes::lay_word(faults, place, decimal(line, 1, 4294967295) as u32);
+    let mut faults = b.faults;
+    shapes::lay_word(&mut faults, place, decimal(line, 1, 4294967295) as u32);
+    let mut t = b;
+    t.faults = faults;
+    t
 }

@@ -1,15 +1,9 @@
 -- What holds of carrying out a command over and above the function's own promise.
-use mathlib.Core.Path.{_≡_, refl}
-use lib.ListN.{length}
 use Rattle.lists.specs.Promise.{Determined}
 use Rattle.lists.proofs.Theorems.{one}
 use Rattle.packets.specs.declared.packet.Packet.{Packet}
 use Rattle.panel.specs.declared.state.Body.{Body}
-use Rattle.command.specs.Commands.{version, Carries}
-
--- The version that command 1 replies has 16 bytes.
-pub version-length : length version ≡ 16
-version-length = refl
+use Rattle.command.specs.Commands.{Carries}
 
 -- Any two results that the promise allows are equal.
 pub carry-out-determined : (b : Body) (p : Packet) → Determined (Carries b p)

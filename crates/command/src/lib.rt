@@ -1,4 +1,2 @@
-// Carrying out the eighteen commands: what each does to the body, and what it replies.
+// Carrying out a command: what it does to the body, together with its reply.
 pub mod carry;
-mod effect;
-mod reply;

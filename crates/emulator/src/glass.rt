@@ -1,7 +1,7 @@
 // The glass on standard error, dot by dot from the painted picture: a cell is three braille characters wide and two high,
 // inside a frame at the top left of the screen.
 use libc::STDERR_FILENO;
-use tally::text::word;
+use wording::word;
 
 // Four lines of a cell, from the top: the upper half or the lower.
 struct Four {
@@ -118,7 +118,7 @@ pub fn draw(picture: &[u8], list: &[u8], listed: usize) {
     let mut out = [0u8; SCREEN];
     let n = with_cells(&mut out, picture, list, listed);
     let end = word(&mut out, n, b"\x1b[11;01H");
-    tally::text::put(STDERR_FILENO, &out, end);
+    crate::put(STDERR_FILENO, &out, end);
 }
 
 fn every_cell() -> [u8; 80] {

@@ -1,12 +1,11 @@
 // The panel on standard input and output: host bytes in, reply packets out, so that a real host can be attached. With the
 // argument `glass` it also draws the glass on standard error.
-ghost use mathlib.Core.Path.{_≡_};
-ghost use mathlib.Core.Bool.{false};
-ghost use Rattle.tally.specs.Session.{goesOn};
-
 mod font;
 mod glass;
 
+use kept::Session;
+use kept::going;
+use kept::lost;
 use libc::STDERR_FILENO;
 use libc::STDOUT_FILENO;
 use session::sizes::FAULTS;
@@ -15,13 +14,16 @@ use session::sizes::PICTURE;
 use session::sizes::REPLY;
 use session::sizes::SAID;
 use session::sizes::STATE;
-use tally::kept::Session;
-use tally::kept::going;
-use tally::kept::lost;
+
+// Writes the front of a buffer to a file; whether all of it was written.
+fn put(file: i32, out: &[u8], length: usize) -> bool {
+    let n = lists::at_most(length, out.len());
+    io::write_all(file, &out[..n])
+}
 
 // Sends the front of a reply buffer to the host, at once. A failed write is told on standard error.
 fn send(reply: &[u8], length: usize) -> bool {
-    let sent = tally::text::put(STDOUT_FILENO, reply, length);
+    let sent = put(STDOUT_FILENO, reply, length);
     if !sent {
         os::fail(b"emulator: standard output cannot be written");
     }
@@ -29,9 +31,7 @@ fn send(reply: &[u8], length: usize) -> bool {
 }
 
 // What a call replies and draws; the session ends where the reply cannot be written.
-fn told(s: Session, drawn: bool, picture: &[u8], list: &[u8], reply: &[u8]) -> Session
-    ensures { λ r. ⌜ r .steps ≡ s .steps ⌝ }
-{
+fn told(s: Session, drawn: bool, picture: &[u8], list: &[u8], reply: &[u8]) -> Session {
     if s.over {
         return s;
     }
@@ -56,13 +56,13 @@ fn hear(
     reply: &mut [u8],
     faults: &mut [u8],
     said: &mut [u8; 16],
-) -> Session
-    ensures { λ r. ⌜ goesOn r ≡ false ⌝ }
-{
-    let mut s = tally::kept::started();
-    while going(s) {
+) -> Session {
+    let mut s = kept::started();
+    let mut steps: u64 = 0;
+    while going(steps, s.over) {
         s = session::step(s, piece, state, picture, font, list, reply, faults, said);
         s = told(s, drawn, picture, list, reply);
+        steps += 1;
     }
     s
 }

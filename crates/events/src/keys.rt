@@ -2,12 +2,12 @@
 ghost use mathlib.Core.Path.{_≡_};
 ghost use Prim.Native.Nat.{_≤_};
 ghost use Rattle.events.specs.Keys.{keyEvent, maskFor, reportCode, asTold, ReportsBy, Presses};
+use answers::Answer;
 use answers::Check;
 use answers::Checked;
 use answers::Said;
-use answers::accepted_call;
 use answers::also;
-use answers::refused_call;
+use answers::nothing_taken;
 use packets::packet::REPLY;
 use panel::state::Keys;
 use panel::state::Masks;
@@ -80,16 +80,16 @@ pub fn key(mut p: Panel, number: u32, down: bool, reply: &mut [u8]) -> Said
     let room = also(state, reply.len() == REPLY, Check::ReplySize);
     let known = also(room, number <= 5, Check::KeyOrPin);
     match also(known, !as_told(p.body.keys, number, down), Check::KeyAsTold) {
-        Checked::Fails(check) => refused_call(p, check),
+        Checked::Fails(check) => nothing_taken(p, Answer::CallRefused(check), 0),
         Checked::Passes => {
             let n = number as u8;
             let keys = after_event(p.body.keys, n, down);
             let mask = mask_for(p.body.live.masks, down);
             let written = report(mask, n, down, reply);
-            let mut body = p.body;
-            body.keys = keys;
-            p.body = body;
-            accepted_call(p, written)
+            p.body.keys.down = keys.down;
+            p.body.keys.pressed = keys.pressed;
+            p.body.keys.released = keys.released;
+            nothing_taken(p, Answer::Done(0), written)
         }
     }
 }

@@ -2,12 +2,12 @@
 ghost use mathlib.Core.Path.{_≡_};
 ghost use Prim.Native.Nat.{_<_};
 ghost use Rattle.events.specs.Pins.{pinEvent, Moves};
+use answers::Answer;
 use answers::Check;
 use answers::Checked;
 use answers::Said;
-use answers::accepted_call;
 use answers::also;
-use answers::refused_call;
+use answers::nothing_taken;
 use panel::state::Panel;
 use panel::state::Pins;
 
@@ -43,13 +43,13 @@ pub fn pin(mut p: Panel, number: u32, high: bool) -> Said
         Check::StateRange,
     );
     match also(state, number <= 4, Check::KeyOrPin) {
-        Checked::Fails(check) => refused_call(p, check),
+        Checked::Fails(check) => nothing_taken(p, Answer::CallRefused(check), 0),
         Checked::Passes => {
             let pins = after_event(p.body.pins, number as u8, high);
-            let mut body = p.body;
-            body.pins = pins;
-            p.body = body;
-            accepted_call(p, 0)
+            p.body.pins.last = pins.last;
+            p.body.pins.fell = pins.fell;
+            p.body.pins.rose = pins.rose;
+            nothing_taken(p, Answer::Done(0), 0)
         }
     }
 }

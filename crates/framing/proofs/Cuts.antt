@@ -3,7 +3,7 @@ use mathlib.Core.Path.{_≡_, refl, sym, _∙_, ap}
 use mathlib.Core.Logic.{dite}
 use mathlib.Core.Bool.{false}
 use mathlib.Core.List.{List, [], _++_, append-nil, append-assoc}
-use Prim.Native.Nat.{ℕ, zero, suc, _+_, _*_, _<_, _≤_, min}
+use Prim.Native.Nat.{ℕ, zero, suc, _+_, _*_, _-_, _<_, _≤_, min}
 use native.Mathlib.Decide.{decLe}
 use native.Mathlib.Omega.{arith}
 use lib.ListN.{length, take, drop, take-append-drop, length-take, length-drop}
@@ -53,6 +53,21 @@ whole-line (last {hold = hold} {bytes = bytes} {r = r} n e t f) =
     ap (counted r) (sym (nothing-left hold bytes r e t f)) ∙ sym (by-call hold bytes [] r e) ∙ rw append-nil
 whole-line (next {hold = hold} piece more {r = r} n e c) = ap (counted r) (whole-line c) ∙ sym (by-call hold piece more r e)
 
+at-most-first : (n most second : ℕ) → n ≤ min most second → n ≤ most
+at-most-first n most second p = omega arith
+
+at-most-second : (n most second : ℕ) → n ≤ min most second → n ≤ second
+at-most-second n most second p = omega arith
+
+-- a call that waits leaves less where it saw only a part of the bytes, and one that ends with a packet does always
+less-waiting : (before taken dropped kept bytes most f : ℕ) → 1 ≤ most → before + 2 * bytes ≤ f → before + taken ≡ dropped + 0 + kept → taken ≡ min pieceMost (min most bytes) → (bytes ≤ min most pieceMost → ⊥)
+    → kept + 2 * (bytes - taken) < f
+less-waiting before taken dropped kept bytes most f room n k t p = omega arith
+
+less-packet : (before taken dropped content kept bytes f most seen : ℕ) → before + 2 * bytes ≤ f → before + taken ≡ dropped + (content + 4) + kept → taken ≤ seen → seen ≡ min pieceMost (min most bytes)
+    → kept + 2 * (bytes - taken) < f
+less-packet before taken dropped content kept bytes f most seen n k t s = omega arith
+
 -- there is such a way: a call on as much as there is and may be, and calls on what it leaves
 module _ (most : ℕ) (room : 1 ≤ most) (hold : Hold) (bytes : List ℕ) where
   abbrev piece : List ℕ
@@ -70,26 +85,30 @@ module _ (most : ℕ) (room : 1 ≤ most) (hold : Hold) (bytes : List ℕ) where
       next piece (drop most bytes) (omega (arith, length-take most bytes)) refl d in
       rw whole at (rw (← by-call hold piece (drop most bytes) (scannedOf outcome) refl) at n)
 
+  sized : length (take pieceMost piece) ≡ min pieceMost (min most (length bytes))
+  sized = length-take pieceMost piece ∙ ap (min pieceMost) (length-take most bytes)
+
+  -- what the call leaves, in what it holds and in what it has not taken
+  left : (f : ℕ) → length (outcome .hold) + 2 * (length bytes - outcome .taken) < f → length (held (holdOf (outcome .hold))) + 2 * length (drop (outcome .taken) bytes) < f
+  left f h = rw (held-holdOf, length-drop) h
+
   ends-at : (f : ℕ) → length (held hold) + 2 * length bytes ≤ f → ((g : Hold) (more : List ℕ) → length (held g) + 2 * length more < f → Calls most g more (line (held g ++ more)))
       → (e : Ending) → outcome .ending ≡ e → Calls most hold bytes (line (held hold ++ bytes))
   unfolding scannedOf
   ends-at f n ih waiting q =
       let t = all-taken (held hold) (take pieceMost piece) q .0 in
-      let i = call (held hold) (take pieceMost piece) in
-      let k = rw q at (i .adds-up) in
-      let l : outcome .taken ≡ length (take pieceMost piece) = t in
+      let k = rw q at (call (held hold) (take pieceMost piece) .adds-up) in
       dite (decLe (length bytes) (min most pieceMost))
       (λ p.
-      let same : piece ≡ bytes = take-all most bytes (omega arith) in
-      let all : outcome .taken ≡ length bytes = t ∙ rw (same, take-all pieceMost bytes (omega arith)) in
+      let same : piece ≡ bytes = take-all most bytes (at-most-first _ _ _ p) in
+      let all : outcome .taken ≡ length bytes = t ∙ ap (λ (x : List ℕ). length (take pieceMost x)) same ∙ ap length (take-all pieceMost bytes (at-most-second _ _ _ p)) in
       let c : Calls most hold bytes (counted (scannedOf outcome) (nothingMore (holdOf (outcome .hold)))) =
-      last (omega arith) (ap (λ (x : List ℕ). scannedOf (scan (held hold) (take pieceMost x))) same) all (ap isPacket q) in
+      last (at-most-first _ _ _ p) (ap (λ (x : List ℕ). scannedOf (scan (held hold) (take pieceMost x))) same) all (ap isPacket q) in
       rw (whole-line c) at c)
-      (λ p. go-on (ih (holdOf (outcome .hold)) (drop (outcome .taken) bytes) (rw held-holdOf (omega (arith, length-drop (outcome .taken) bytes, length-take pieceMost piece, length-take most bytes)))))
+      (λ p. go-on (ih (holdOf (outcome .hold)) (drop (outcome .taken) bytes) (left f (less-waiting _ _ _ _ _ _ _ room n k (t ∙ sized) p))))
   ends-at f n ih (packet k d) q =
-      let i = call (held hold) (take pieceMost piece) in
-      let j = rw q at (i .adds-up) in
-      go-on (ih (holdOf (outcome .hold)) (drop (outcome .taken) bytes) (rw held-holdOf (omega (arith, length-drop (outcome .taken) bytes, taken-at-most (held hold) (take pieceMost piece), length-take pieceMost piece, length-take most bytes))))
+      let j = rw q at (call (held hold) (take pieceMost piece) .adds-up) in
+      go-on (ih (holdOf (outcome .hold)) (drop (outcome .taken) bytes) (left f (less-packet _ _ _ _ _ _ _ most _ n j (taken-at-most (held hold) (take pieceMost piece)) sized)))
 
 ends-in : (most : ℕ) → 1 ≤ most → (f : ℕ) (hold : Hold) (bytes : List ℕ) → length (held hold) + 2 * length bytes < f → Calls most hold bytes (line (held hold ++ bytes))
 ends-in most room zero hold bytes n = absurd (omega arith)

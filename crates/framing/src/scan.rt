@@ -142,11 +142,10 @@ fn walk(bytes: &[u8], first: usize, next: usize) -> Walked
                     };
                 }
             }
-            Judgement::LongLength => {
-                start += 1;
-            }
+            Judgement::LongLength => start += 1,
             Judgement::WrongChecksum => {
-                checked += lists::wide(bytes[start + 1]) + 2;
+                let covered = lists::wide(bytes[start + 1]) + 2;
+                checked += covered;
                 start += 1;
             }
             Judgement::Packet => {

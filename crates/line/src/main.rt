@@ -1,10 +1,7 @@
 // The line program: host bytes on standard input, a line of text a packet on standard output.
-ghost use mathlib.Core.Path.{_≡_};
-ghost use mathlib.Core.Bool.{false};
-ghost use Rattle.tally.specs.Session.{goesOn};
-
-mod lines;
-
+use kept::Session;
+use kept::going;
+use kept::lost;
 use libc::STDERR_FILENO;
 use libc::STDOUT_FILENO;
 use session::sizes::FAULTS;
@@ -13,14 +10,12 @@ use session::sizes::PICTURE;
 use session::sizes::REPLY;
 use session::sizes::SAID;
 use session::sizes::STATE;
-use tally::kept::Session;
-use tally::kept::found;
-use tally::kept::going;
-use tally::kept::lost;
+use tally::found;
 
 // Writes the front of a buffer; whether all of it was written. A failed write is told on standard error.
 fn put(out: &[u8], length: usize) -> bool {
-    let done = tally::text::put(STDOUT_FILENO, out, length);
+    let n = lists::at_most(length, out.len());
+    let done = io::write_all(STDOUT_FILENO, &out[..n]);
     if !done {
         io::write_all(STDERR_FILENO, b"line: standard output cannot be written\n");
     }
@@ -28,10 +23,8 @@ fn put(out: &[u8], length: usize) -> bool {
 }
 
 // The line of the packet that the last call found; the session ends where it cannot be written.
-fn told(s: Session) -> Session
-    ensures { λ r. ⌜ r .steps ≡ s .steps ⌝ }
-{
-    if !found(s) {
+fn told(s: Session) -> Session {
+    if !found(s.call.number) {
         return s;
     }
     let mut out = [0u8; 200];
@@ -52,12 +45,12 @@ fn hear(
     reply: &mut [u8],
     faults: &mut [u8],
     said: &mut [u8; 16],
-) -> Session
-    ensures { λ r. ⌜ goesOn r ≡ false ⌝ }
-{
-    let mut s = tally::kept::started();
-    while going(s) {
+) -> Session {
+    let mut s = kept::started();
+    let mut steps: u64 = 0;
+    while going(steps, s.over) {
         s = told(session::step(s, piece, state, picture, font, list, reply, faults, said));
+        steps += 1;
     }
     s
 }
@@ -80,7 +73,7 @@ fn main() {
     if !put(heading, heading.len()) {
         return;
     }
-    let font = session::font::program_font();
+    let font = font::program_font();
     let mut state = [0u8; STATE];
     let mut picture = [0u8; PICTURE];
     let mut said = [0u8; SAID];

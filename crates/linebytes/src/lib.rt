@@ -44,7 +44,7 @@ fn turned_down(state: &mut [u8], h: Heard, faults: &mut [u8], said: &mut [u8; 16
     saidbytes::write(said, n, h.counts, h.reply, 0);
     if n.number < 10 {
         let line = h.line;
-        statebytes::writes::write_line(state, Line { unfiled, ..line });
+        statebytes::line::write_line(state, Line { unfiled, ..line });
     }
     n.number
 }
@@ -61,11 +61,15 @@ fn carried_out(
 ) -> u8
     ensures { λ r. ⌜ CarriesOut (now (state .entry)) h (now (picture .entry)) (now (font .entry)) (now (list .entry)) (now (reply .entry)) r (now (state .exit)) (now (picture .exit)) (now (list .exit)) (now (reply .exit)) (now (said .exit)) ⌝ }
 {
-    let before = statebytes::reads::read_body(state);
-    let d = perform::perform(before, h.packet, picture, font, list, reply);
-    let line = h.line;
-    let body = d.body;
-    statebytes::writes::write(state, line, body);
+    let d = perform::perform(
+        statereads::read_body(state),
+        h.packet,
+        picture,
+        font,
+        list,
+        reply,
+    );
+    statewrites::write(state, h.line, d.body);
     let answer = h.answer;
     let n = answers::told(answer);
     saidbytes::write(said, n, h.counts, d.reply, d.listed);
@@ -85,7 +89,7 @@ pub fn line(
 ) -> u8
     ensures { λ r. ⌜ LineBytes (now (state .entry)) (lent (now (piece .entry)) (now (picture .entry)) (now (font .entry)) (now (list .entry)) (now (reply .entry)) (recordsIn (length (now (faults .entry))))) (now (faults .entry)) r (now (state .exit)) (now (picture .exit)) (now (list .exit)) (now (reply .exit)) (now (faults .exit)) (now (said .exit)) ⌝ }
 {
-    let in_ranges = statebytes::reads::in_ranges(state);
+    let in_ranges = statereads::in_ranges(state);
     let sizes = Sizes {
         picture: picture.len(),
         font: font.len(),
@@ -95,7 +99,7 @@ pub fn line(
     match listen::checked(in_ranges, piece.len(), sizes, reply.len()) {
         Checked::Fails(check) => saidbytes::refused(said, check),
         Checked::Passes => {
-            let h = listen::hear(statebytes::reads::read_line(state), piece, reply);
+            let h = listen::hear(statebytes::line::read_line(state), piece, reply);
             let answer = h.answer;
             if answers::is_done(answer) {
                 return carried_out(state, h, picture, font, list, reply, said);

@@ -5,17 +5,12 @@ use mathlib.Core.List.{List}
 use native.Mathlib.Omega.{arith}
 use Rattle.lists.specs.Promise.{Determined}
 use Rattle.lists.proofs.Theorems.{one, and}
-use Rattle.packets.specs.declared.packet.Packet.{Packet}
 use Rattle.panel.specs.declared.state.Line.{Line}
 use Rattle.answers.specs.Answer.{checkNumber}
 use Rattle.answers.proofs.Checks.{Rising}
 use Rattle.listen.specs.declared.Sizes.{Sizes}
 use Rattle.listen.specs.declared.Heard.{Heard}
-use Rattle.listen.specs.Reply.{AnswersTo}
 use Rattle.listen.specs.Listen.{lineTests, ChecksLine, HearsPiece, Listens}
-
-pub answer-to-determined : (p : Packet) → Determined (AnswersTo p)
-answer-to-determined p = one _
 
 pub checked-determined : (inRange : Bool) (piece : ℕ) (sizes : Sizes) (reply : ℕ) → Determined (ChecksLine inRange piece sizes reply)
 checked-determined inRange piece sizes reply = one _

@@ -38,7 +38,7 @@ pub struct Heard {
 }
 
 // A stray, a done command or a refusal: the panel's state has no part in it.
-pub fn answer_to(p: Packet) -> Answer
+fn answer_to(p: Packet) -> Answer
     ensures { λ r. ⌜ AnswersTo p r ⌝ }
 {
     let code = p.kind;

@@ -1,20 +1,19 @@
 -- How a call over bytes comes out, put together from the promises of what it calls.
 use Prim.Native.Nat.{ℕ}
 use mathlib.Core.Path.{_≡_, sym, _∙_, ap}
-use mathlib.Core.Bool.{true, false, true≢false}
+use mathlib.Core.Bool.{true}
 use mathlib.Core.List.{List}
 use lib.ListN.{length}
 use borrow.Author.Tests.{eq-eqb, ne-eqb}
 use Rattle.lists.specs.Tests.{when_then_else_, _<?_}
-use Rattle.lists.proofs.Laws.{when-either, when-true, when-false}
+use Rattle.lists.proofs.Laws.{when-true, when-false}
 use Rattle.panel.specs.declared.state.Panel.{Panel}
 use Rattle.panel.specs.State.{poweredOn}
 use Rattle.answers.specs.declared.Said.{Said}
 use Rattle.answers.specs.Answer.{refusedCall, acceptedCall}
 use Rattle.answers.proofs.Checks.{either-way, refused-by, accepted-by}
-use Rattle.calls.specs.Power.{PowersOn, powerTests, powerSaid}
-use Rattle.statebytes.specs.declared.reads.Reading.{Reading}
-use Rattle.statebytes.specs.State.{stateSize, bytesOf, panelOf, isState, onState, stateWith, readingOf, ReadsState, WritesState}
+use Rattle.power.specs.Power.{PowersOn, powerTests, powerSaid}
+use Rattle.statebytes.specs.State.{stateSize, bytesOf, panelOf, isState, onState, stateWith, WritesState}
 use Rattle.saidbytes.specs.Says.{numberOf, bytesSaid, noState}
 use Rattle.linebytes.specs.Line.{stateAfter}
 use Rattle.linebytes.proofs.OnState.{on-state, on-none}
@@ -24,45 +23,33 @@ with-state : (state : List ℕ) (p : Panel) → isState state ≡ true → state
 unfolding stateWith
 with-state state p e = when-true _ _ _ e
 
--- what was read says whether the bytes are a state, and which
-module _ (state : List ℕ) (r : Reading) (reads : ReadsState state r) where
-  no-state : r .readable ≡ false → isState state ≡ false
-  unfolding readingOf
-  no-state f =
-      when-either (λ (q : Reading). q .readable ≡ false → isState state ≡ false) (isState state) _ _ (λ _ g. absurd (true≢false g)) (λ e _. e)
-      (sym (ap (λ (q : Reading). q .readable) reads) ∙ f)
+-- bytes that are no state
+module _ (state : List ℕ) (other : length state ≡ stateSize → ⊥) where
+  pub off : {A : Type 0} (x : A) (f : Panel → A) → x ≡ onState state x f
+  off x f = sym (on-none state x f (ne-eqb (length state) stateSize other))
 
-  a-state : r .readable ≡ true → (isState state ≡ true) × (r .panel ≡ panelOf state)
-  unfolding readingOf
-  a-state f =
-      when-either (λ (q : Reading). q .readable ≡ true → r ≡ q → (isState state ≡ true) × (r .panel ≡ panelOf state)) (isState state) _ _
-      (λ e _ p. (e, ap (λ (q : Reading). q .panel) p)) (λ _ g _. absurd (true≢false (sym g))) (sym (ap (λ (q : Reading). q .readable) reads) ∙ f)
-      reads
+  pub refused : (saidOn : Panel → Said) {number : ℕ} {said′ : List ℕ} → (number ≡ 10) × (said′ ≡ noState) → OnBytes saidOn state number state said′
+  refused saidOn told = record { number = told .0 ∙ off _ _; state = off _ _; said = told .1 ∙ off _ _ }
 
-  -- bytes that are no state
-  module _ (unread : r .readable ≡ false) {number : ℕ} {said′ : List ℕ} (told : (number ≡ 10) × (said′ ≡ noState)) where
-    pub off : {A : Type 0} (x : A) (f : Panel → A) → x ≡ onState state x f
-    off x f = sym (on-none state x f (no-state unread))
+-- bytes that are a state, and the panel that they are
+module _ (state : List ℕ) (size : length state ≡ stateSize) {panel : Panel} (is : panel ≡ panelOf state) where
+  a-state : isState state ≡ true
+  a-state = eq-eqb (length state) stateSize size
 
-    pub refused : (saidOn : Panel → Said) → OnBytes saidOn state number state said′
-    refused saidOn = record { number = told .0 ∙ off _ _; state = off _ _; said = told .1 ∙ off _ _ }
+  pub on : {A : Type 0} (x : A) (f : Panel → A) → f panel ≡ onState state x f
+  on x f = ap f is ∙ sym (on-state state x f a-state)
 
-  -- bytes that are a state
-  module _ (yes : r .readable ≡ true) where
-    pub on : {A : Type 0} (x : A) (f : Panel → A) → f (r .panel) ≡ onState state x f
-    on x f = let a = a-state yes in ap f (a .1) ∙ sym (on-state state x f (a .0))
+  kept : (s : Said) → when numberOf s <? 10 then stateWith state (s .panel) else state ≡ stateAfter state s
+  unfolding stateAfter
+  kept s = rw (with-state state (s .panel) a-state)
 
-    kept : (s : Said) → when numberOf s <? 10 then stateWith state (s .panel) else state ≡ stateAfter state s
-    unfolding stateAfter
-    kept s = rw (with-state state (s .panel) (a-state yes .0))
-
-    module _ {number : ℕ} {state′ said′ : List ℕ} (s : Said) (e : EndsCall state s number state′ said′) where
-      pub called : (saidOn : Panel → Said) → s ≡ saidOn (r .panel) → OnBytes saidOn state number state′ said′
-      called saidOn q = record {
-        number = e .0 ∙ ap numberOf q ∙ on 10 (λ (p : Panel). numberOf (saidOn p));
-        state = e .1 ∙ kept s ∙ ap (stateAfter state) q ∙ on state (λ (p : Panel). stateAfter state (saidOn p));
-        said = e .2 ∙ ap bytesSaid q ∙ on noState (λ (p : Panel). bytesSaid (saidOn p));
-      }
+  pub called : (saidOn : Panel → Said) (s : Said) → s ≡ saidOn panel → {number : ℕ} {state′ said′ : List ℕ} → EndsCall state s number state′ said′
+      → OnBytes saidOn state number state′ said′
+  called saidOn s q e = record {
+    number = e .0 ∙ ap numberOf q ∙ on 10 (λ (p : Panel). numberOf (saidOn p));
+    state = e .1 ∙ kept s ∙ ap (stateAfter state) q ∙ on state (λ (p : Panel). stateAfter state (saidOn p));
+    said = e .2 ∙ ap bytesSaid q ∙ on noState (λ (p : Panel). bytesSaid (saidOn p));
+  }
 
 -- power-on returns the power-on state, refused or not
 pub power-panel : (picture font : List ℕ) → powerSaid picture font .panel ≡ poweredOn

@@ -8,7 +8,7 @@ use Rattle.lists.specs.Tests.{when_then_else_, _<?_}
 use Rattle.panel.specs.declared.state.Panel.{Panel}
 use Rattle.panel.specs.State.{poweredOn}
 use Rattle.answers.specs.declared.Said.{Said}
-use Rattle.calls.specs.Power.{powerSaid, powerPicture}
+use Rattle.power.specs.Power.{powerSaid, powerPicture}
 use Rattle.events.specs.Keys.{keySaid, keyReply}
 use Rattle.events.specs.Pins.{pinSaid}
 use Rattle.statebytes.specs.State.{bytesOf, isState, onState, stateWith}

@@ -1,12 +1,14 @@
 // The panel for a C caller: the four calls of include/naupelys.h over lent bytes.
 ghost use mathlib.Core.Path.{_≡_};
 ghost use lib.ListN.{length};
+ghost use Rattle.statebytes.specs.State.{stateSize, panelOf};
 ghost use Rattle.saidbytes.specs.Says.{noState};
 ghost use Rattle.calls.specs.Line.{lent};
 ghost use Rattle.linebytes.specs.Line.{recordsIn, LineBytes};
 ghost use Rattle.naupelys.specs.Calls.{Told, EndsCall, PowerOnBytes, KeyBytes, PinBytes};
 use answers::Check;
 use answers::Said;
+use panel::state::Panel;
 use statebytes::places::SIZE;
 
 // The answer and the counts written as what the call says; the answer's number.
@@ -26,15 +28,28 @@ fn no_state(said: &mut [u8; 16]) -> u8
     saidbytes::refused(said, Check::StateRange)
 }
 
+// The panel that the bytes are. Their size, known to the caller, is tested where they are read, so that the compiler leaves out
+// what the readings return for other sizes, and its stack.
+fn panel_in(state: &[u8]) -> Panel
+    requires { ⌜ length (now state) ≡ stateSize ⌝ }
+    ensures { λ r. ⌜ r ≡ panelOf (now (state .entry)) ⌝ }
+{
+    if state.len() != SIZE {
+        return panel::state::powered_on();
+    }
+    Panel {
+        line: statebytes::line::read_line(state),
+        body: statereads::read_body(state),
+    }
+}
+
 // The end of a call on a state: the state after it, unless the call was refused by number.
 fn ended(state: &mut [u8], s: Said, said: &mut [u8; 16]) -> u8
     ensures { λ r. ⌜ EndsCall (now (state .entry)) s r (now (state .exit)) (now (said .exit)) ⌝ }
 {
     let number = told(said, s);
     if number < 10 {
-        let line = s.panel.line;
-        let body = s.panel.body;
-        statebytes::writes::write(state, line, body);
+        statewrites::write(state, s.panel.line, s.panel.body);
     }
     number
 }
@@ -52,10 +67,8 @@ pub extern "C" fn naupelys_power_on(
     if state.len() != SIZE {
         return no_state(said);
     }
-    let on = calls::power::power_on(picture, font);
-    let line = on.panel.line;
-    let body = on.panel.body;
-    statebytes::writes::write(state, line, body);
+    let on = power::power_on(picture, font);
+    statewrites::write(state, on.panel.line, on.panel.body);
     told(said, on)
 }
 
@@ -87,11 +100,10 @@ pub extern "C" fn naupelys_key(
 ) -> u8
     ensures { λ r. ⌜ KeyBytes (now (state .entry)) key down (now (reply .entry)) r (now (state .exit)) (now (reply .exit)) (now (said .exit)) ⌝ }
 {
-    let r = statebytes::reads::read(state);
-    if !r.readable {
+    if state.len() != SIZE {
         return no_state(said);
     }
-    let s = events::keys::key(r.panel, key, down, reply);
+    let s = events::keys::key(panel_in(state), key, down, reply);
     ended(state, s, said)
 }
 
@@ -100,10 +112,9 @@ pub extern "C" fn naupelys_key(
 pub extern "C" fn naupelys_pin(state: &mut [u8], pin: u32, high: bool, said: &mut [u8; 16]) -> u8
     ensures { λ r. ⌜ PinBytes (now (state .entry)) pin high r (now (state .exit)) (now (said .exit)) ⌝ }
 {
-    let r = statebytes::reads::read(state);
-    if !r.readable {
+    if state.len() != SIZE {
         return no_state(said);
     }
-    let s = events::pins::pin(r.panel, pin, high);
+    let s = events::pins::pin(panel_in(state), pin, high);
     ended(state, s, said)
 }

@@ -1,9 +1,11 @@
-// What a call says, as 16 bytes.
+// What a call says, as 16 bytes, written and read.
 ghost use Rattle.saidbytes.specs.Says.{Says, SaysRefused};
 use answers::Answer;
 use answers::Check;
 use answers::Numbers;
 use framing::scan::Counts;
+
+pub mod told;
 
 // How many bytes it takes.
 pub const SAID: usize = 16;

@@ -1,27 +1,15 @@
 -- Any two results that a promise allows are equal.
 use mathlib.Core.Path.{_≡_, sym, _∙_, ap}
 use mathlib.Core.List.{List}
-use Prim.Native.Nat.{ℕ, _+_, _*_, _/_, _%_, _<_}
-use native.Mathlib.Omega.{arith}
-use lib.Seq.{ext-getD}
+use Prim.Native.Nat.{ℕ}
 use Rattle.lists.specs.Promise.{Determined}
 use Rattle.linebytes.proofs.Theorems.{line-determined}
-use Rattle.tally.specs.declared.kept.Session.{Session}
-use Rattle.tally.specs.Told.{callOf}
-use Rattle.tally.specs.Session.{heldIn, withCall}
-use Rattle.session.specs.Font.{IsFont}
+use Rattle.saidbytes.specs.Told.{callOf}
+use Rattle.kept.specs.declared.Session.{Session}
+use Rattle.kept.specs.Session.{heldIn, withCall}
 use Rattle.session.specs.Calls.{startIn, CallsOn}
 
--- Two fonts that have the programs' rows are one font.
-pub program-font-determined : Determined IsFont
-program-font-determined f g p q =
-    ext-getD 0 f g (p .0 ∙ sym (q .0))
-    (λ i h. let e : 8 * (i / 8) + i % 8 ≡ i = omega arith in
-    let small : i / 8 < 256 = omega (arith, p .0) in
-    let row : i % 8 < 8 = omega arith in
-    rw e at (p .1 (i / 8) (i % 8) small row ∙ sym (q .1 (i / 8) (i % 8) small row)))
-
--- A call too: the session, the state, every buffer and what it says.
+-- The session, the state, every buffer and what it says.
 pub call-determined : (s : Session) (piece font b p l r f : List ℕ)
     → Determined (λ (x : Session × List ℕ × List ℕ × List ℕ × List ℕ × List ℕ × List ℕ). CallsOn s piece font b p l r f (x .0) (x .1) (x .2) (x .3) (x .4) (x .5) (x .6))
 call-determined s piece font b p l r f x y e g =

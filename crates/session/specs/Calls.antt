@@ -5,9 +5,9 @@ use mathlib.Core.List.{List}
 use lib.ListN.{length, take, drop}
 use Rattle.calls.specs.Line.{lent}
 use Rattle.linebytes.specs.Line.{recordsIn, LineBytes}
-use Rattle.tally.specs.declared.kept.Session.{Session}
-use Rattle.tally.specs.Told.{callOf}
-use Rattle.tally.specs.Session.{heldIn, withCall}
+use Rattle.saidbytes.specs.Told.{callOf}
+use Rattle.kept.specs.declared.Session.{Session}
+use Rattle.kept.specs.Session.{heldIn, withCall}
 
 -- where the piece ends, and where what is left of it begins
 abbrev pub endIn : Session → List ℕ → ℕ

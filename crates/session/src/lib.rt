@@ -1,24 +1,18 @@
 // What the programs share: the calls on standard input's bytes until each piece waits for more, and what is told of them.
-ghost use mathlib.Core.Path.{_≡_};
-ghost use Rattle.tally.specs.Sums.{sumOf};
 ghost use Rattle.session.specs.Calls.{CallsOn};
+use kept::Session;
+use kept::held;
+use kept::with_call;
+use kept::with_piece;
 use libc::STDIN_FILENO;
-use tally::kept::Session;
-use tally::kept::WAITING;
-use tally::kept::held;
-use tally::kept::stepped;
-use tally::kept::with_call;
-use tally::kept::with_piece;
-use tally::told::told;
+use saidbytes::told::told;
+use tally::WAITING;
 
-pub mod font;
 pub mod sizes;
 
 // Reads a piece where the last call waited: a read brings what has arrived and does not wait for a full buffer. A failed read
 // is not taken for the end of the input.
-fn supplied(s: Session, piece: &mut [u8]) -> Session
-    ensures { λ r. ⌜ r .steps ≡ s .steps ⌝ }
-{
+fn supplied(s: Session, piece: &mut [u8]) -> Session {
     if s.call.number != WAITING {
         return s;
     }
@@ -68,10 +62,8 @@ pub fn step(
     reply: &mut [u8],
     faults: &mut [u8],
     said: &mut [u8; 16],
-) -> Session
-    ensures { λ r. ⌜ r .steps ≡ sumOf (s .steps) 1 ⌝ }
-{
-    let t = supplied(stepped(s), piece);
+) -> Session {
+    let t = supplied(s, piece);
     if t.over {
         return t;
     }

@@ -1,12 +1,14 @@
 -- Runs of bytes, laid behind one another and read one by one.
 use mathlib.Core.Path.{_≡_, sym, _∙_, ap}
 use mathlib.Core.List.{List, [], _∷_, _++_, append-assoc}
-use Prim.Native.Nat.{ℕ, suc, _+_, _≤_}
+use Prim.Native.Nat.{ℕ, suc, _+_, _-_, _≤_, _<_}
 use native.Mathlib.Omega.{arith}
-use lib.ListN.{length, take, drop, getD, set, length-append}
+use lib.ListN.{length, take, drop, getD, set, length-append, length-drop}
 use lib.Seq.{take-length, take-at, drop-append-add, drop-drop, drop-cons, length-take-le, set-split}
+use borrow.Author.Tests.{le-leb, lt-leb}
 use Rattle.lists.specs.Runs.{pasted}
-use Rattle.lists.proofs.Laws.{pasted-fits, pasted-front, whole-front, length-pasted}
+use Rattle.lists.proofs.Laws.{when-true, when-false, pasted-fits, pasted-front, whole-front, length-pasted}
+use Rattle.shapes.specs.Shape.{filled}
 
 -- two bytes, and four, one by one
 pub two : (b : List ℕ) (k : ℕ) → k + 2 ≤ length b → take 2 (drop k b) ≡ getD b k 0 ∷ getD b (k + 1) 0 ∷ []
@@ -50,3 +52,18 @@ pub one-set : (o : List ℕ) (k x : ℕ) → k + 1 ≤ length o → set o k x �
 one-set o k x h =
     let e : k + 1 ≡ suc k = omega arith in
     sym (written-out o k (x ∷ []) h ∙ rw (append-assoc, e) (sym (set-split o k x (omega arith))))
+
+-- a buffer filled, where the bytes are there and where there are too few
+pub filled-fits : (o b : List ℕ) (k : ℕ) → k + length o ≤ length b → filled o b k ≡ take (length o) (drop k b)
+unfolding filled
+filled-fits o b k h = when-true _ _ _ (le-leb (k + length o) (length b) h)
+
+pub filled-short : (o b : List ℕ) (k : ℕ) → length b < k + length o → filled o b k ≡ o
+unfolding filled
+filled-short o b k h = when-false _ _ _ (lt-leb (k + length o) (length b) h)
+
+-- filled, as the code lends the part
+pub filled-lent : (o b : List ℕ) (k : ℕ) → k + length o ≤ length b → pasted o 0 (take (k + length o - k) (drop k b)) ≡ filled o b k
+filled-lent o b k h =
+    let e : k + length o - k ≡ length o = omega arith in
+    rw e (fills o _ (length-take-le (length o) (drop k b) (omega (arith, length-drop k b))) ∙ sym (filled-fits o b k h))

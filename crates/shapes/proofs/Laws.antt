@@ -5,12 +5,15 @@ use Prim.Native.Nat.{ℕ, _+_, _-_, _*_, _/_, _%_, _<_, _≤_}
 use native.Mathlib.Omega.{arith}
 use lib.ListN.{length, take, drop, getD, length-append, length-drop}
 use lib.Seq.{take-at, take-add, take-take, drop-at, drop-drop, drop-cons, getD-at, getD-append-add, getD-take, getD-drop, length-take-le}
+use mathlib.Core.Bool.{true}
+use borrow.Author.Tests.{leb-true}
+use Rattle.lists.specs.Tests.{_≤?_}
 use Rattle.lists.specs.Runs.{pasted}
 use Rattle.lists.proofs.Laws.{part, length-pasted}
 use Rattle.shapes.specs.Words.{halfOf, wordOf}
-use Rattle.shapes.specs.Shape.{Shape, byte, counter, half, word, run, _▸_, times, _&_, Value, size, collected, bytes, value, laid, Sized, Fits, Bytes, Stands, Lays}
+use Rattle.shapes.specs.Shape.{Shape, byte, counter, half, word, run, _▸_, times, _&_, Value, size, collected, bytes, value, laid, Sized, Fits, Bytes, Stands, Lays, filled}
 use Rattle.shapes.proofs.Numbers.{half-back, half-written, word-back, word-written}
-use Rattle.shapes.proofs.Laid.{written-out, behind, fills, two, four, one-set}
+use Rattle.shapes.proofs.Laid.{written-out, behind, fills, two, four, one-set, filled-fits}
 use Rattle.shapes.proofs.Rows.{each-of, length-joined, length-collected, collected-joined, joined-collected, each-collected, collected-moved}
 
 pub fits-sized : (s : Shape) (v : Value s) → Fits s v → Sized s v
@@ -171,9 +174,10 @@ pub counter-stands : {v : ℕ} {b : List ℕ} {k : ℕ} → v ≡ getD b k 0 →
 unfolding value
 counter-stands p = record { is = p }
 
-pub run-stands : {n : ℕ} {v b : List ℕ} {k : ℕ} → v ≡ take n (drop k b) → Stands (run n) v b k
+pub filled-stands : {n k m : ℕ} {v b : List ℕ} (o : List ℕ) → v ≡ filled o b k → length o ≡ n → length b ≡ m → k + n ≤? m ≡ true → Stands (run n) v b k
 unfolding value
-run-stands p = record { is = p }
+filled-stands {n} {k} {m} {v} {b} o p e l h =
+    record { is = p ∙ filled-fits o b k (omega (arith, leb-true (k + n) m h)) ∙ ap (λ (i : ℕ). take i (drop k b)) e }
 
 pub then-stands : {s t : Shape} {v : Value s} {w : Value t} {b : List ℕ} {k : ℕ} → Stands s v b k → Stands t w b (k + size s) → Stands (s ▸ t) (v & w) b k
 unfolding value
@@ -182,4 +186,4 @@ then-stands p q = record { is = λ i. p .is i & q .is i }
 pub lent-stands : {s : Shape} {v : Value s} (b : List ℕ) (k : ℕ) → Stands s v (take (k + size s - k) (drop k b)) 0 → Stands s v b k
 lent-stands {s} b k p = record { is = p .is ∙ value-lent s b k }
 
-pub ruleset stands = (byte-stands, counter-stands, run-stands, then-stands)
+pub ruleset stands = (byte-stands, counter-stands, filled-stands, then-stands)

@@ -5,7 +5,7 @@ use mathlib.Core.List.{List}
 use Rattle.lists.specs.Promise.{Determined}
 use Rattle.lists.proofs.Theorems.{one}
 use Rattle.shapes.specs.Words.{ReadsWord, WritesWord}
-use Rattle.shapes.specs.Shape.{Shape, byte, counter, word, Value, Lays}
+use Rattle.shapes.specs.Shape.{Shape, byte, counter, word, Value, Lays, Fills}
 
 lays-determined : (s : Shape) (v : Value s) (out : List ℕ) (place : ℕ) → Determined (Lays s v out place)
 lays-determined s v out place x y p q = p .is ∙ sym (q .is)
@@ -24,3 +24,6 @@ word-of-determined a b c d = one _
 
 pub word-bytes-determined : (n : ℕ) → Determined (WritesWord n)
 word-bytes-determined n = one _
+
+pub fill-determined : (out bytes : List ℕ) (place : ℕ) → Determined (Fills out bytes place)
+fill-determined out bytes place = one _

@@ -3,6 +3,7 @@ use Prim.Native.Nat.{ℕ, zero, suc, _+_, _*_, _%_, _<_}
 use mathlib.Core.Path.{_≡_}
 use mathlib.Core.List.{List, [], _∷_, _++_}
 use lib.ListN.{length, take, drop, getD, set}
+use Rattle.lists.specs.Tests.{when_then_else_, _≤?_}
 use Rattle.lists.specs.Runs.{pasted}
 use Rattle.shapes.specs.Words.{halfOf, halfBytes, wordOf, wordBytes}
 
@@ -129,3 +130,11 @@ pub record Stands (s : Shape) (v : Value s) (b : List ℕ) (k : ℕ) : Type 0 wh
 pub record Lays (s : Shape) (v : Value s) (o : List ℕ) (k : ℕ) (o′ : List ℕ) : Type 0 where
   pub is : o′ ≡ laid s o k v
   pub sized : Sized s v
+
+-- the buffer o filled with the bytes that stand in b from k on; o as it was where there are too few
+unfoldable pub filled : List ℕ → List ℕ → ℕ → List ℕ
+filled o b k = when k + length o ≤? length b then take (length o) (drop k b) else o
+
+-- what `fill` promises of the buffer
+abbrev pub Fills : List ℕ → List ℕ → ℕ → List ℕ → Type 0
+Fills out bytes place out′ = out′ ≡ filled out bytes place

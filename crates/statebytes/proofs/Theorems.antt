@@ -15,11 +15,10 @@ use Rattle.lists.specs.Promise.{Determined}
 use Rattle.lists.proofs.Theorems.{one}
 use Rattle.packets.specs.declared.hold.Hold.{Hold}
 use Rattle.panel.specs.declared.state.Line.{Line}
-use Rattle.panel.specs.declared.state.Body.{Body}
 use Rattle.panel.specs.declared.state.Panel.{Panel}
 use Rattle.panel.specs.State.{factorySettings, poweredOn, lineHolding, lineUnfiled}
 use Rattle.statebytes.specs.Layout.{lineShape, lineParts, shownShape, cursorShape, cursorPlace, dialsShape, dialsPlace, masksShape, masksPlace, wiresShape, wiresPlace, settingsShape, bodyShape, bodyPlace, panelShape, panelParts, panelFrom}
-use Rattle.statebytes.specs.State.{stateSize, bytesOf, panelOf, isState, PanelFits, lineWith, ReadsState, ReadsLine, ReadsBody, WritesState, WritesLine, RangesState}
+use Rattle.statebytes.specs.State.{stateSize, bytesOf, panelOf, isState, PanelFits, lineWith, ReadsLine, WritesLine}
 
 -- The places, computed: the numbers of the tables in include/naupelys.h.
 pub size-is : stateSize ≡ 390
@@ -97,20 +96,8 @@ unfolding poweredOn factorySettings
 power-fits = ((omega arith, (refl, omega arith)), search tt depth 20)
 
 -- For each public function, any two results that its promise allows are equal, the lent bytes included.
-pub read-determined : (state : List ℕ) → Determined (ReadsState state)
-read-determined state = one _
-
-pub in-ranges-determined : (state : List ℕ) → Determined (RangesState state)
-in-ranges-determined state = one _
-
 pub read-line-determined : (state : List ℕ) → Determined (ReadsLine state)
 read-line-determined state = one _
-
-pub read-body-determined : (state : List ℕ) → Determined (ReadsBody state)
-read-body-determined state = one _
-
-pub write-determined : (state : List ℕ) (l : Line) (b : Body) → Determined (WritesState state l b)
-write-determined state l b = one _
 
 pub write-line-determined : (state : List ℕ) (l : Line) → Determined (WritesLine state l)
 write-line-determined state l = one _

@@ -13,7 +13,6 @@ use Rattle.panel.specs.declared.state.Panel.{Panel}
 use Rattle.panel.specs.State.{poweredOn}
 use Rattle.panel.specs.Ranges.{inRanges}
 use Rattle.statebytes.specs.Layout.{lineShape, lineParts, panelShape, panelParts, panelFrom}
-use Rattle.statebytes.specs.declared.reads.Reading.{Reading}
 
 abbrev pub stateSize : ℕ
 stateSize = size panelShape
@@ -46,9 +45,6 @@ stateWith state p = when isState state then bytesOf p else state
 unfoldable pub lineWith : List ℕ → Line → List ℕ
 lineWith state l = when isState state then pasted state 0 (bytes lineShape (lineParts l)) else state
 
-unfoldable pub readingOf : List ℕ → Reading
-readingOf b = when isState b then record { readable = true; panel = panelOf b } else record { readable = false; panel = poweredOn }
-
 -- whether the bytes are a state in its ranges
 unfoldable pub rangesOf : List ℕ → Bool
 rangesOf b = when isState b then inRanges (panelOf b) else false
@@ -60,18 +56,15 @@ lineReadOf b = when isState b then panelOf b .line else poweredOn .line
 unfoldable pub bodyReadOf : List ℕ → Body
 bodyReadOf b = when isState b then panelOf b .body else poweredOn .body
 
--- what `read`, `in_ranges`, `read_line` and `read_body` promise
-abbrev pub ReadsState : List ℕ → Reading → Type 0
-ReadsState state r = r ≡ readingOf state
-
-abbrev pub RangesState : List ℕ → Bool → Type 0
-RangesState state r = r ≡ rangesOf state
-
+-- what `read_line`, `read_body` and `in_ranges` promise
 abbrev pub ReadsLine : List ℕ → Line → Type 0
 ReadsLine state r = r ≡ lineReadOf state
 
 abbrev pub ReadsBody : List ℕ → Body → Type 0
 ReadsBody state r = r ≡ bodyReadOf state
+
+abbrev pub RangesState : List ℕ → Bool → Type 0
+RangesState state r = r ≡ rangesOf state
 
 -- what `write` and `write_line` promise of the bytes
 abbrev pub WritesState : List ℕ → Line → Body → List ℕ → Type 0

@@ -1,4 +1,3 @@
-// The panel's state as bytes: what lent bytes say, and the panel written as its bytes.
+// The panel's state as bytes: where each part stands, and the line's part read and written.
+pub mod line;
 pub mod places;
-pub mod reads;
-pub mod writes;

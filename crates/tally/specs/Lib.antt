@@ -1,4 +1,1 @@
 pub mod Sums
-pub mod Told
-pub mod Text
-pub mod Session

@@ -1,9 +1,10 @@
 -- What is added up from call to call.
 use Prim.Native.Nat.{ℕ, _+_, _-_, min}
 use mathlib.Core.Path.{_≡_}
+use mathlib.Core.Bool.{Bool, _&&_}
 use Rattle.lists.specs.Tests.{when_then_else_, _<?_}
-use Rattle.tally.specs.declared.sums.Sums.{Sums}
-use Rattle.tally.specs.declared.told.CallTold.{CallTold}
+use Rattle.saidbytes.specs.declared.told.CallTold.{CallTold}
+use Rattle.tally.specs.declared.Sums.{Sums}
 
 -- the largest number of 64 bits
 abbrev pub largest : ℕ
@@ -17,9 +18,12 @@ sumOf a b = min (a + b) largest
 abbrev pub offsetOf : ℕ → ℕ → ℕ → ℕ
 offsetOf taken held dropped = sumOf (taken - held) dropped
 
--- an answer above 1, waiting, is a packet's
+-- an answer between 1, waiting, and 10, the first that refuses a call, is a packet's
+abbrev pub isFound : ℕ → Bool
+isFound number = (1 <? number) && (number <? 10)
+
 unfoldable pub packetsBy : ℕ → ℕ
-packetsBy number = when 1 <? number then 1 else 0
+packetsBy number = when isFound number then 1 else 0
 
 abbrev pub sumsWith : Sums → ℕ → CallTold → Sums
 sumsWith s held c =
@@ -31,12 +35,12 @@ sumsWith s held c =
       checked = sumOf (s .checked) (c .checked);
     }
 
--- what `sum`, `offset` and `with_call` promise
+-- what `sum`, `found` and `with_call` promise
 abbrev pub Sum : ℕ → ℕ → ℕ → Type 0
 Sum a b r = r ≡ sumOf a b
 
-abbrev pub Offset : ℕ → ℕ → ℕ → ℕ → Type 0
-Offset taken held dropped r = r ≡ offsetOf taken held dropped
+abbrev pub Finds : ℕ → Bool → Type 0
+Finds number r = r ≡ isFound number
 
 abbrev pub SumsCall : Sums → ℕ → CallTold → Sums → Type 0
 SumsCall s held c r = r ≡ sumsWith s held c

@@ -23,7 +23,7 @@ use Rattle.picture.specs.Draw.{cellDrawn, placeOf, drawn}
 use Rattle.picture.specs.Repaint.{ListedIn}
 use Rattle.answers.specs.Answer.{numbersOf}
 use Rattle.perform.specs.Perform.{shownBy}
-use Rattle.calls.specs.Power.{powerSaid, powerPicture, PowersOn}
+use Rattle.power.specs.Power.{powerSaid, powerPicture, PowersOn}
 use Rattle.calls.specs.Line.{Lent, lineSaid}
 use Rattle.statebytes.specs.State.{bytesOf, panelOf, isState, PanelFits}
 use Rattle.statebytes.proofs.Theorems.{power-fits}
@@ -39,7 +39,7 @@ use Rattle.theorems.specs.Library.{Kept, withState, withFaults, LineOn, 
 use Rattle.theorems.specs.Cuts.{Note, Cut, placesIn}
 use Rattle.theorems.proofs.Others as others
 use Rattle.theorems.proofs.Calls as calls
-use Rattle.theorems.proofs.Runs.{power-panel}
+use Rattle.theorems.proofs.Runs.{power-panel, and-more}
 use Rattle.theorems.proofs.Theorems as panel
 use Rattle.theorems.proofs.Standing as standing
 use Rattle.theorems.proofs.Registers.{Small, line-filed}
@@ -84,31 +84,30 @@ module _ {c : Other} {state out : List ℕ} {number : ℕ} {state′ out′ said
 stands-lent : {k : Kept} {w : World} {faults : List ℕ} → StandsFor k w → StandsFor (withFaults k faults) w
 stands-lent s = record { state = s .state; fits = s .fits; picture = s .picture }
 
+standing-lent : {k : Kept} {w : World} {faults : List ℕ} → faults ≡ k .faults → Standing k w → Standing (withFaults k faults) w
+standing-lent {k} {w} {faults} e s = subst (λ (y : List ℕ). Standing (withFaults k y) w) (sym e) s
+
 -- calls on bytes that stand for a panel and a picture are calls of the panel, whatever is lent as a register
 pub as-the-panel : {font : List ℕ} {cs : List Call} {k l : Kept} {n : ℕ} → Library font anyFaults cs k l n → (w : World) → StandsFor k w → (v : World) × Runs font anyRegister cs w v n × StandsFor l v
 as-the-panel done w s = (w, run.done, s)
-as-the-panel {font} (more {faults = faults} x (hears m) r) w s =
+as-the-panel {font} {l = l} (more {faults = faults} x (hears m) r) w s =
     let t = stands-lent {faults = faults} s in
-    let b = as-the-panel r (standing.v t font m) (standing.line-stands t font m) in
-    (b .0, rw (standing.line-refusals t font m) (run.more {register = recordsLent faults} tt (run.hears (standing.heard t font m)) (b .1)), b .2)
-as-the-panel {font} (more {faults = faults} x (answers {c} {out} m) r) w s =
+    and-more {register = recordsLent faults} (StandsFor l) (standing.line-refusals t font m) tt (run.hears (standing.heard t font m)) (as-the-panel r (standing.v t font m) (standing.line-stands t font m))
+as-the-panel {font} {l = l} (more {faults = faults} x (answers {c} {out} m) r) w s =
     let t = stands-lent {faults = faults} s in
-    let b = as-the-panel r (withPanel (withRegister w []) (standing.says t m .panel)) (standing.other-stands {w = withRegister w []} (record { state = t .state; fits = t .fits; picture = t .picture }) m) in
-    (b .0, rw (standing.none-refused t m) (run.more {register = []} tt (run.answers (others.from-row c (w .panel) out)) (b .1)), b .2)
+    and-more {register = w .register} (StandsFor l) (standing.none-refused t m) tt (run.answers (others.from-row c (w .panel) out)) (as-the-panel r (withPanel w (standing.says t m .panel)) (standing.other-stands t m))
 
 -- and where the register is lent back, it stands for the panel's
 pub as-the-panel-files : {font : List ℕ} {cs : List Call} {k l : Kept} {n : ℕ} → Library font faultsLentBack cs k l n → (w : World) → Standing k w → (v : World) × Runs font lentBack cs w v n × Standing l v
 as-the-panel-files done w s = (w, run.done, s)
-as-the-panel-files {font} {cs} {k} (more {l = l} {faults = faults} x (hears m) r) w s =
-    let e : withFaults k faults ≡ k = λ i. record { state = k .state; picture = k .picture; faults = x i } in
-    let t : Standing (withFaults k faults) w = subst (λ (y : Kept). Standing y w) (sym e) s in
-    let b = as-the-panel-files r (standing.v (t .stands) font m) record { stands = standing.line-stands (t .stands) font m; filed = line-filed font (t .stands) (t .filed) m } in
-    (b .0, rw (standing.line-refusals (t .stands) font m) (run.more (sym (t .filed .records)) (run.hears (standing.heard (t .stands) font m)) (b .1)), b .2)
-as-the-panel-files {font} {cs} {k} (more {faults = faults} x (answers {c} {out} m) r) w s =
-    let e : withFaults k faults ≡ k = λ i. record { state = k .state; picture = k .picture; faults = x i } in
-    let t : Standing (withFaults k faults) w = subst (λ (y : Kept). Standing y w) (sym e) s in
-    let b = as-the-panel-files r (withPanel w (standing.says (t .stands) m .panel)) record { stands = standing.other-stands (t .stands) m; filed = record { records = t .filed .records; small = t .filed .small } } in
-    (b .0, rw (standing.none-refused (t .stands) m) (run.more {register = w .register} refl (run.answers (others.from-row c (w .panel) out)) (b .1)), b .2)
+as-the-panel-files {font} {cs} {k} {l} (more {faults = faults} x (hears m) r) w s =
+    let t = standing-lent x s in
+    and-more (Standing l) (standing.line-refusals (t .stands) font m) (sym (t .filed .records)) (run.hears (standing.heard (t .stands) font m))
+    (as-the-panel-files r (standing.v (t .stands) font m) record { stands = standing.line-stands (t .stands) font m; filed = line-filed font (t .stands) (t .filed) m })
+as-the-panel-files {font} {cs} {k} {l} (more {faults = faults} x (answers {c} {out} m) r) w s =
+    let t = standing-lent x s in
+    and-more (Standing l) (standing.none-refused (t .stands) m) refl (run.answers (others.from-row c (w .panel) out))
+    (as-the-panel-files r (withPanel w (standing.says (t .stands) m .panel)) record { stands = standing.other-stands (t .stands) m; filed = record { records = t .filed .records; small = t .filed .small } })
 
 -- Each sequence of the library's calls can be made: from any bytes its promises lead to others.
 pub goes-on : (font : List ℕ) (cs : List Call) (k : Kept) → (l : Kept) × ((n : ℕ) × Library font faultsLentBack cs k l n)

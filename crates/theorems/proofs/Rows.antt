@@ -9,7 +9,7 @@ use Rattle.lists.proofs.Laws.{when-either}
 use Rattle.panel.specs.declared.state.Settings.{Settings}
 use Rattle.panel.specs.declared.state.Body.{Body}
 use Rattle.panel.specs.State.{withStyle, withContrast, withBacklight, withLive, withKeys, withPins}
-use Rattle.command.specs.Commands.{withFlash, stored, polled, rebooted, withShown, withCursor, withDials, withMasks, withWires, cleared, glyphSet, cursorAt, masksGiven, textWritten, pinSet, pinRead, liveAfter, effect}
+use Rattle.effects.specs.Effects.{withFlash, stored, polled, rebooted, withShown, withCursor, withDials, withMasks, withWires, cleared, glyphSet, cursorAt, masksGiven, textWritten, pinSet, pinRead, liveAfter, effect}
 
 module _ (code : ℕ) (d : List ℕ) where
   -- in the order of `liveAfter`

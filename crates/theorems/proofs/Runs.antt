@@ -1,8 +1,8 @@
 -- What each call keeps: the picture drawn afresh, the state in its ranges, the sum of what is filed.
 use Prim.Native.Nat.{ℕ, _+_, _<_, _≤_}
-use mathlib.Core.Path.{_≡_, refl, sym, _∙_, ap}
+use mathlib.Core.Path.{_≡_, refl, sym, _∙_, ap, subst}
 use mathlib.Core.Bool.{Bool, true, false}
-use mathlib.Core.List.{List}
+use mathlib.Core.List.{List, _∷_}
 use native.Mathlib.Omega.{arith}
 use lib.ListN.{length, take, replicate, length-take}
 use Rattle.lists.specs.Tests.{when_then_else_}
@@ -28,7 +28,7 @@ use Rattle.answers.specs.declared.Said.{Said}
 use Rattle.answers.specs.Answer.{numbersOf, filingOf, refusedCall, acceptedCall, withUnfiled}
 use Rattle.answers.proofs.Checks.{refused-by, accepted-by, either-way, call-passed, call-refused, call-unchanged}
 use Rattle.perform.specs.Perform.{shownBy}
-use Rattle.calls.specs.Power.{powerTests, PowersOn}
+use Rattle.power.specs.Power.{powerTests, PowersOn}
 use Rattle.calls.specs.Line.{Lent, lent, lineHeard, bodyAfter, lineSaid, linePicture, lineList, lineReply, filesAfter}
 use Rattle.theorems.specs.Other.{Other, Answers}
 use Rattle.theorems.specs.Run.{Call, line, other, World, withPanel, withRegister, filesOf, refusedIn, Hears, Makes, hears, answers, lentBack, Runs, done, more, Afresh}
@@ -148,3 +148,8 @@ module _ (font : List ℕ) (w : World) (piece list out : List ℕ) where
 pub makes : (font : List ℕ) (c : Call) (w : World) → (r : Said) × ((v : World) × Makes font c w r v)
 makes font (line piece list out) w = (saidThen font w piece list out, (worldThen font w piece list out, hears (hears-then font w piece list out)))
 makes font (other c out) w = (others.saidBy c (w .panel) out, (withPanel w (others.saidBy c (w .panel) out .panel), answers (others.from-row c (w .panel) out)))
+
+-- a call before a sequence that comes to a world of a kind, with its refusals told by a number
+pub and-more : {font : List ℕ} {Lends : World → List Record → Type 0} {c : Call} {cs : List Call} {u v : World} {register : List Record} {r : Said} {n m : ℕ} (P : World → Type 0)
+    → n ≡ refusedIn r → Lends u register → Makes font c (withRegister u register) r v → (w : World) × Runs font Lends cs v w m × P w → (w : World) × Runs font Lends (c ∷ cs) u w (n + m) × P w
+and-more {font} {Lends} {c} {cs} {u} {m = m} P e k made b = (b .0, subst (λ (x : ℕ). Runs font Lends (c ∷ cs) u (b .0) (x + m)) (sym e) (more k made (b .1)), b .2)

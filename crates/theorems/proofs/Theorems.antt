@@ -17,7 +17,7 @@ use Rattle.answers.specs.declared.Check.{Check}
 use Rattle.answers.specs.declared.Said.{Said}
 use Rattle.answers.specs.Answer.{numbersOf, refusedCall}
 use Rattle.perform.specs.Perform.{shownBy}
-use Rattle.calls.specs.Power.{PowersOn}
+use Rattle.power.specs.Power.{PowersOn}
 use Rattle.theorems.specs.Run.{Call, World, anyRegister, lentBack, Runs, done, more, Afresh}
 use Rattle.theorems.specs.Story.{Entry, Others, none, one, Story, last, line, call, callPlaces}
 use Rattle.theorems.specs.Worked.{told, piecesOf, expectedOf, workedCases}

@@ -11,10 +11,10 @@ use Rattle.linebytes.proofs.carried_out.Tie as tie
 
 returns : tie.Need-returns
 returns c =
-    let a = c .before .before .before .before .before .before .before .before .before .before .before .before .before .before .before .before .before .before .before .before .before .before .before .before .before .before .args in
+    let a = c .before .before .before .before .before .before .before .before .before .before .before .before .before .before .before .before .before .before .before .before .before .before .before .before .args in
     let t = c .before .before .told .ensures in
-    let q = c .before .before .before .before .before .before .before .before .before .before .before .before .before .before .before .perform in
-    let d = rw (c .before .before .before .before .before .before .before .before .before .before .before .before .before .before .before .before .before .before .before .read-body .ensures) at (q .ensures) in
+    let q = c .before .before .before .before .before .before .before .before .before .before .before .before .before .perform in
+    let d = rw (c .before .before .before .before .before .before .before .before .before .before .before .before .before .before .before .before .before .read-body .ensures) at (q .ensures) in
     record {
       number = ap (λ (n : Numbers). n .number) t;
       state = c .before .before .before .before .before .write .ensures ∙ ap (λ (b : Body). stateWith (a .state .now) (record { line = a .h .line; body = b })) (d .body);

@@ -7,8 +7,8 @@ use Rattle.naupelys.proofs.ended.Tie as tie
 
 returns : tie.Need-returns
 returns c =
-    let t = c .before .before .before .before .before .before .before .told .ensures in
-    (t .0, c .before .before .write .ensures ∙ sym (when-true _ _ _ (rw (← t .0) (lt-ltb _ _ (c .before .before .before .before .before .before .if1 .taken)))), t .1)
+    let t = c .before .before .before .before .before .told .ensures in
+    (t .0, c .before .before .write .ensures ∙ sym (when-true _ _ _ (rw (← t .0) (lt-ltb _ _ (c .before .before .before .before .if1 .taken)))), t .1)
 
 returns-2 : tie.Need-returns-2
 returns-2 c =

@@ -1,30 +1,27 @@
 use Rattle.events.specs.Pins.{pinSaid}
 use Rattle.naupelys.proofs.Together.{refused, called}
-use borrow.Author.Tests.{not-true, not-false}
 use borrow.Author.Needs.{needs}
 use Rattle.naupelys.proofs.naupelys_pin.Statement.{statement}
 use Rattle.naupelys.proofs.naupelys_pin.Tie as tie
 
 returns : tie.Need-returns
 returns c =
-    let a = c .before .before .before .before .before .before .before .args in
-    refused (a .state .now) (c .before .before .before .before .read .result) (c .before .before .before .before .read .ensures) (not-true _ (c .before .before .if1 .taken)) (c .no-state .ensures) (λ p. pinSaid p (a .pin) (a .high))
+    let a = c .before .before .before .before .args in
+    refused (a .state .now) (c .before .before .if1 .taken) (λ p. pinSaid p (a .pin) (a .high)) (c .no-state .ensures)
 
 returns-2 : tie.Need-returns-2
 returns-2 c =
-    let a = c .before .before .before .before .before .before .before .before .before .before .before .args in
-    let r = c .before .before .before .before .before .before .before .before .read in
+    let a = c .before .before .before .before .before .before .before .before .before .before .args in
     let k = c .before .before .before .before .before .pin in
-    called (a .state .now) (r .result) (r .ensures) (not-false _ (c .before .before .before .before .before .before .if1 .left)) (k .result) (c .before .before .ended .ensures) (λ p. pinSaid p (a .pin) (a .high)) (k .ensures)
+    called (a .state .now) (c .before .before .before .before .before .before .before .before .if1 .left) (c .before .before .before .before .before .before .panel-in .ensures) (λ p. pinSaid p (a .pin) (a .high)) (k .result) (k .ensures) (c .before .before .ended .ensures)
 
 pub naupelys-pin-spec : {M : Type 1} → statement M
 naupelys-pin-spec =
     tie.close
     (tie.spec
     (λ c κs. search needs)
-    (λ c κs. search needs)
-    (λ c. search needs)
     returns
+    (λ c κs. search needs)
     (λ c κs. search needs)
     (λ c κs. search needs)
     (λ c. search needs)

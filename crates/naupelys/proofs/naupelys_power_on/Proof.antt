@@ -10,9 +10,9 @@ returns c =
 
 returns-2 : tie.Need-returns-2
 returns-2 c =
-    let a = c .before .before .before .before .before .before .before .before .before .before .before .before .before .before .before .before .args in
-    let p = c .before .before .before .before .before .before .before .before .before .before .power-on in
-    power-on-called (a .state .now) (a .picture .now) (a .font .now) (c .before .before .before .before .before .before .before .before .before .before .before .before .if1 .left) (p .result) (p .ensures) (c .before .before .before .before .write .ensures) (c .told .ensures)
+    let a = c .before .before .before .before .before .before .before .before .before .before .before .before .before .before .args in
+    let p = c .before .before .before .before .before .before .before .before .power-on in
+    power-on-called (a .state .now) (a .picture .now) (a .font .now) (c .before .before .before .before .before .before .before .before .before .before .if1 .left) (p .result) (p .ensures) (c .before .before .before .before .write .ensures) (c .told .ensures)
 
 pub naupelys-power-on-spec : {M : Type 1} → statement M
 naupelys-power-on-spec =

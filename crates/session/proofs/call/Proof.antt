@@ -1,7 +1,7 @@
 use borrow.Author.Needs.{needs}
 use Prim.Native.Nat.{min}
 use mathlib.Core.Path.{_∙_, ap}
-use Rattle.tally.specs.Session.{withCall}
+use Rattle.kept.specs.Session.{withCall}
 use Rattle.session.proofs.call.Statement.{statement}
 use Rattle.session.proofs.call.Tie as tie
 

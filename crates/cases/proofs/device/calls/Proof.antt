@@ -1,24 +1,22 @@
 use Prim.Native.Nat.{_≤_, _-_}
-use mathlib.Core.Path.{_≡_}
-use lib.ListN.{length}
 use native.Mathlib.Omega.{arith}
+use lib.ListN.{length}
 use borrow.Author.Needs.{needs}
 use Rattle.cases.proofs.device.calls.Statement.{statement}
 use Rattle.cases.proofs.device.calls.Tie as tie
 
 abbrev Inv-loop : tie.InvT-loop
-Inv-loop by-value bytes state₀ picture₀ font faults₀ at₀ counter₀ end state picture faults at counter =
-    (at ≤ length bytes) × (counter ≤ end) × (length state ≡ length state₀) × (length picture ≡ length picture₀) × (length faults ≡ length faults₀)
+Inv-loop by-value bytes b₀ at₀ counter₀ end b at counter = (at ≤ length bytes) × (counter ≤ end)
 
 abbrev μ-loop : tie.MeasureT-loop
-μ-loop by-value bytes state₀ picture₀ font faults₀ at₀ counter₀ end state picture faults at counter = end - counter
+μ-loop by-value bytes b₀ at₀ counter₀ end b at counter = end - counter
 
 add-end : tie.Need-add-end Inv-loop μ-loop
 add-end c = search needs
 
 add-counter : tie.Need-add-counter Inv-loop μ-loop
 add-counter c =
-    let tested = c .before .before .before .before .before .before .before .before .before .before .before .before .before .before .before in
+    let tested = c .before .before .before .before .before .before .before in
     omega (arith, tested .loop-test .taken, add-end (tested .before .before))
 
 pub calls-spec : {M : Type 1} → statement M
@@ -33,17 +31,12 @@ calls-spec =
     (λ c. search needs)
     (λ c. search needs)
     (λ c κs. search needs)
+    (λ c κs. search needs)
     (λ c. search needs)
     (λ c κs. search needs)
     (λ c. search needs)
     (λ c. search needs)
-    (λ c. search needs)
-    (λ c. search needs)
-    (λ c. search needs)
     add-counter
-    (λ c. search needs)
-    (λ c. search needs)
-    (λ c. search needs)
     (λ c. search needs)
     (λ c. search needs)
     (λ c. search needs))

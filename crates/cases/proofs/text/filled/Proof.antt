@@ -1,14 +1,14 @@
-use Prim.Native.Nat.{_≤_, _-_}
+use Prim.Native.Nat.{_+_, _≤_, _-_}
 use lib.ListN.{length}
 use borrow.Author.Needs.{needs}
 use Rattle.cases.proofs.text.filled.Statement.{statement}
 use Rattle.cases.proofs.text.filled.Tie as tie
 
 abbrev Inv-loop : tie.InvT-loop
-Inv-loop text values at₀ i₀ at i = (at ≤ length text) × (i ≤ length values)
+Inv-loop text values at₀ i₀ at i = (at ≤ length text + 1) × (i ≤ at)
 
 abbrev μ-loop : tie.MeasureT-loop
-μ-loop text values at₀ i₀ at i = length values - i
+μ-loop text values at₀ i₀ at i = length text - at
 
 pub filled-spec : {M : Type 1} → statement M
 filled-spec =
@@ -26,12 +26,7 @@ filled-spec =
     (λ c. search needs)
     (λ c κs. search needs)
     (λ c. search needs)
-    (λ c κs. search needs)
     (λ c. search needs)
     (λ c. search needs)
     (λ c. search needs)
-    (λ c. search needs)
-    (λ c. search needs)
-    (λ c. search needs)
-    (λ c κs. search needs)
     (λ c. search needs))

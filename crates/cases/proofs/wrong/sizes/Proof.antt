@@ -65,6 +65,5 @@ sizes-spec =
     slice-aggregate-naupelys-line-6
     (λ c κs. search needs)
     (λ c κs. search needs)
-    (λ c κs. search needs)
     (λ c. search needs)
     (λ c. search needs))

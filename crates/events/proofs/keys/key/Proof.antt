@@ -32,14 +32,14 @@ after-event-requires c κs = omega (arith, key-known c)
 returns : tie.Need-returns
 returns c =
     let a = c .before .before .before .before .before .before .before .before .before .before .before .args in
-    key-refused (a .p) (a .number) (a .down) (a .reply .now) _ _ (sym (came-out (c .before .before .before .before)) ∙ c .before .before .check .given .1) (c .refused-call .ensures)
+    key-refused (a .p) (a .number) (a .down) (a .reply .now) _ _ (sym (came-out (c .before .before .before .before)) ∙ c .before .before .check .given .1) (c .nothing-taken .ensures)
 
 returns-2 : tie.Need-returns-2
 returns-2 c =
-    let k = c .before .before .before .before .before .before .before .before in
+    let k = c .before .before .before .before .before .before .before .before .before .before in
     let a = k .before .before .before .before .before .before .before .before .before .args in
-    key-accepted (a .p) (a .number) (a .down) (a .reply .now) (passed k) _ _ _ _ _ (c .before .before .before .before .before .before .before .after-event .ensures) (c .before .before .before .before .before .before .mask-for .ensures) (c .before .before .before .before .report .ensures)
-    (c .accepted-call .ensures)
+    key-accepted (a .p) (a .number) (a .down) (a .reply .now) (passed k) _ _ _ _ _ (c .before .before .before .before .before .before .before .before .before .after-event .ensures) (c .before .before .before .before .before .before .before .before .mask-for .ensures) (c .before .before .before .before .before .before .report .ensures)
+    (c .nothing-taken2 .ensures)
 
 pub key-spec : {M : Type 1} → statement M
 key-spec =

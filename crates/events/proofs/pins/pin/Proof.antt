@@ -31,14 +31,14 @@ after-event-requires c κs = omega (arith, pin-known c)
 
 returns : tie.Need-returns
 returns c =
-    c .refused-call .ensures ∙ sym (decided-fails _ (sym (came-out (c .before .before .before .before)) ∙ c .before .before .check .given .1) _ _)
+    c .nothing-taken .ensures ∙ sym (decided-fails _ (sym (came-out (c .before .before .before .before)) ∙ c .before .before .check .given .1) _ _)
 
 returns-2 : tie.Need-returns-2
 returns-2 c =
-    let k = c .before .before .before in
+    let k = c .before .before .before .before .before in
     let p = k .before .before .before .before .before .args .p in
-    let e = c .before .before .after-event .ensures in
-    c .accepted-call .ensures ∙ (λ i. acceptedCall (withBody p (withPins (p .body) (e i))) 0) ∙ sym (accepted-by _ (passed k) _ _)
+    let e = c .before .before .before .before .after-event .ensures in
+    c .nothing-taken2 .ensures ∙ (λ i. acceptedCall (withBody p (withPins (p .body) (e i))) 0) ∙ sym (accepted-by _ (passed k) _ _)
 
 pub pin-spec : {M : Type 1} → statement M
 pin-spec =

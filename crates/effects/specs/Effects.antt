@@ -1,0 +1,128 @@
+-- What each command does to the body: a function of the body and the packet's code and data alone.
+use Prim.Native.Nat.{ℕ, _+_, _*_, _%_}
+use mathlib.Core.Path.{_≡_}
+use mathlib.Core.List.{List}
+use lib.ListN.{length, getD, drop, set, replicate}
+use Rattle.lists.specs.Tests.{when_then_else_, _=?_}
+use Rattle.lists.specs.Runs.{pasted}
+use Rattle.packets.specs.declared.packet.Packet.{Packet}
+use Rattle.packets.specs.Packet.{contentOf}
+use Rattle.bits.specs.Bits.{withoutBit}
+use Rattle.panel.specs.declared.state.Shown.{Shown}
+use Rattle.panel.specs.declared.state.Cursor.{Cursor}
+use Rattle.panel.specs.declared.state.Dials.{Dials}
+use Rattle.panel.specs.declared.state.Masks.{Masks}
+use Rattle.panel.specs.declared.state.Wires.{Wires}
+use Rattle.panel.specs.declared.state.Settings.{Settings}
+use Rattle.panel.specs.declared.state.Keys.{Keys}
+use Rattle.panel.specs.declared.state.Pins.{Pins}
+use Rattle.panel.specs.declared.state.Body.{Body}
+use Rattle.panel.specs.State.{withStyle, withContrast, withBacklight, withLive, withKeys, withPins}
+use Rattle.glyphs.specs.Glyphs.{eightFrom, nestedOf, flatOf}
+
+-- 2: "writes user flash"
+abbrev pub withFlash : Body → List ℕ → Body
+withFlash b d = record { live = b .live; boot = b .boot; keys = b .keys; pins = b .pins; flash = pasted (b .flash) 0 d }
+
+-- 4: "stores boot state"
+abbrev pub stored : Body → Body
+stored b = record { live = b .live; boot = b .live; keys = b .keys; pins = b .pins; flash = b .flash }
+
+-- 24: "clears the last two"
+abbrev pub polled : Keys → Keys
+polled k = record { down = k .down; pressed = 0; released = 0 }
+
+-- 5: "Reboot brings it back and clears poll bytes and edges. Flash, held bytes, keys down, last pin levels, the register
+-- and the unfiled number stay."
+abbrev pub rebooted : Body → Body
+rebooted b =
+    record {
+      live = b .boot;
+      boot = b .boot;
+      keys = polled (b .keys);
+      pins = record { last = b .pins .last; fell = 0; rose = 0 };
+      flash = b .flash;
+    }
+
+-- settings with another group
+abbrev pub withShown : Settings → Shown → Settings
+withShown s shown = record { shown = shown; cursor = s .cursor; dials = s .dials; masks = s .masks; wires = s .wires }
+
+abbrev pub withCursor : Settings → Cursor → Settings
+withCursor s cursor = record { shown = s .shown; cursor = cursor; dials = s .dials; masks = s .masks; wires = s .wires }
+
+abbrev pub withDials : Settings → Dials → Settings
+withDials s dials = record { shown = s .shown; cursor = s .cursor; dials = dials; masks = s .masks; wires = s .wires }
+
+abbrev pub withMasks : Settings → Masks → Settings
+withMasks s masks = record { shown = s .shown; cursor = s .cursor; dials = s .dials; masks = masks; wires = s .wires }
+
+abbrev pub withWires : Settings → Wires → Settings
+withWires s wires = record { shown = s .shown; cursor = s .cursor; dials = s .dials; masks = s .masks; wires = wires }
+
+-- 6: "all text spaces (32), cursor 0,0"
+abbrev pub cleared : Settings → Settings
+cleared s =
+    record {
+      shown = record { text = replicate 80 32; glyphs = s .shown .glyphs };
+      cursor = record { column = 0; row = 0 };
+      dials = s .dials;
+      masks = s .masks;
+      wires = s .wires;
+    }
+
+-- 9: "sets a special glyph": index, then eight rows
+abbrev pub glyphSet : Shown → List ℕ → Shown
+glyphSet s d = record { text = s .text; glyphs = flatOf (set (nestedOf (s .glyphs)) (getD d 0 0) (eightFrom d 1)) }
+
+-- 11: column, row
+abbrev pub cursorAt : List ℕ → Cursor
+cursorAt d = record { column = getD d 0 0; row = getD d 1 0 }
+
+-- 23: "press, release masks"
+abbrev pub masksGiven : List ℕ → Masks
+masksGiven d = record { press = getD d 0 0; release = getD d 1 0 }
+
+-- 31: column, row, text: "writes text; cursor stays"
+abbrev pub textWritten : Shown → List ℕ → Shown
+textWritten s d = record { text = pasted (s .text) (20 * getD d 1 0 + getD d 0 0) (drop 2 d); glyphs = s .glyphs }
+
+-- 34: pin, level, config: "sets pin". "With two bytes config stays."
+abbrev pub pinSet : Wires → List ℕ → Wires
+pinSet w d =
+    record {
+      levels = set (w .levels) (getD d 0 0) (getD d 1 0);
+      configs = when length d =? 3 then set (w .configs) (getD d 0 0) (getD d 2 0) else w .configs;
+    }
+
+-- 35: "clears edges", those of the pin that is read; "clearing keeps bit 0"
+abbrev pub pinRead : Pins → List ℕ → Pins
+pinRead p d = record { last = p .last; fell = withoutBit (p .fell) (getD d 0 0); rose = withoutBit (p .rose) (getD d 0 0) }
+
+-- the column "does" of the table, of the commands that change the live settings alone
+unfoldable pub liveAfter : ℕ → List ℕ → Settings → Settings
+liveAfter code d s =
+    when code =? 6 then cleared s
+    else when code =? 9 then withShown s (glyphSet (s .shown) d)
+    else when code =? 11 then withCursor s (cursorAt d)
+    else when code =? 12 then withDials s (withStyle (s .dials) (getD d 0 0))
+    else when code =? 13 then withDials s (withContrast (s .dials) (getD d 0 0))
+    else when code =? 14 then withDials s (withBacklight (s .dials) (getD d 0 0))
+    else when code =? 23 then withMasks s (masksGiven d)
+    else when code =? 31 then withShown s (textWritten (s .shown) d)
+    else when code =? 34 then withWires s (pinSet (s .wires) d)
+    else s
+
+-- the same column for the whole body; commands 0, 1, 3 and 10 change nothing
+unfoldable pub effect : ℕ → List ℕ → Body → Body
+effect code d b =
+    when code =? 2 then withFlash b d
+    else when code =? 4 then stored b
+    else when code =? 5 then rebooted b
+    else when code =? 24 then withKeys b (polled (b .keys))
+    else when code =? 35 then withPins b (pinRead (b .pins) d)
+    else withLive b (liveAfter code d (b .live))
+
+-- what `effect_of` promises, of the command that the packet's low six type bits name
+abbrev pub Affects : Body → Packet → Body → Type 0
+Affects b p r = r ≡ effect (p .kind % 64) (contentOf p) b

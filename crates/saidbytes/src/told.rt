@@ -1,0 +1,39 @@
+// What a call says in its 16 bytes.
+ghost use mathlib.Core.Path.{_≡_};
+ghost use Rattle.shapes.specs.Words.{halfOf};
+ghost use Rattle.saidbytes.specs.Told.{ReadsSaid};
+
+// The answer's numbers, the counts, the reply's length and how many cells are listed.
+pub struct CallTold {
+    pub number: u8,
+    pub command: u8,
+    pub reason: u8,
+    pub place: u8,
+    pub taken: u64,
+    pub dropped: u64,
+    pub checked: u64,
+    pub reply: usize,
+    pub listed: usize,
+}
+
+fn half_of(a: u8, b: u8) -> u64
+    ensures { λ r. ⌜ r ≡ halfOf a b ⌝ }
+{
+    a as u64 + 256 * (b as u64)
+}
+
+pub fn told(said: &[u8; 16]) -> CallTold
+    ensures { λ r. ⌜ ReadsSaid (now (said .entry)) r ⌝ }
+{
+    CallTold {
+        number: said[0],
+        command: said[1],
+        reason: said[2],
+        place: said[3],
+        taken: half_of(said[4], said[5]),
+        dropped: half_of(said[6], said[7]),
+        checked: shapes::words::word_of(said[8], said[9], said[10], said[11]) as u64,
+        reply: lists::wide(said[12]),
+        listed: lists::wide(said[13]),
+    }
+}

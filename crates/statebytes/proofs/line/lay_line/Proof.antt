@@ -1,0 +1,11 @@
+use Rattle.shapes.proofs.Laws.{run-lays, then-lays}
+use borrow.Author.Needs.{needs}
+use Rattle.statebytes.proofs.line.lay_line.Statement.{statement}
+use Rattle.statebytes.proofs.line.lay_line.Tie as tie
+
+returns : tie.Need-returns
+returns c = let held = run-lays {n = 25} (c .before .before .before .before .before .before .paste .ensures) (search needs) in search then-lays depth 20
+
+pub lay-line-spec : {M : Type 1} → statement M
+lay-line-spec =
+    tie.close (tie.spec (λ c κs. search needs) (λ c κs. search needs) (λ c κs. search needs) (λ c. search needs) returns)

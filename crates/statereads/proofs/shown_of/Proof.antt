@@ -1,0 +1,12 @@
+use Rattle.shapes.proofs.Laws.{stands}
+use borrow.Author.Needs.{needs}
+use Rattle.statereads.proofs.shown_of.Statement.{statement}
+use Rattle.statereads.proofs.shown_of.Tie as tie
+
+returns : tie.Need-returns
+returns c = search stands depth 20
+
+pub shown-of-spec : {M : Type 1} → statement M
+shown-of-spec =
+    tie.close
+    (tie.spec (λ c. search needs) (λ c κs. search needs) (λ c. search needs) (λ c κs. search needs) returns)
