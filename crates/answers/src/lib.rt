@@ -1,5 +1,6 @@
 // What a call says.
 ghost use mathlib.Core.Path.{_≡_};
+ghost use Rattle.verdict.specs.Verdict.{reasonNumber};
 ghost use Rattle.answers.specs.Answer.{checkNumber, Tells, Hands, TellsDone, TakesNothing};
 ghost use Rattle.answers.specs.Checks.{Checks};
 use filing::Refusal;
@@ -102,6 +103,19 @@ fn check_number(check: Check) -> u8
     }
 }
 
+// Document 01's number of a reason.
+fn reason_number(reason: Reason) -> u8
+    ensures { λ r. ⌜ r ≡ reasonNumber reason ⌝ }
+{
+    match reason {
+        Reason::UnknownCommand => 1,
+        Reason::LengthNotAllowed => 2,
+        Reason::DataOutOfRange => 3,
+        Reason::PastColumn19 => 4,
+        Reason::NotTheReboot => 5,
+    }
+}
+
 pub fn told(answer: Answer) -> Numbers
     ensures { λ r. ⌜ Tells answer r ⌝ }
 {
@@ -112,7 +126,7 @@ pub fn told(answer: Answer) -> Numbers
         Answer::Refused(command, reason, place) => Numbers {
             number: 4,
             command,
-            reason: verdict::verdict::reason_number(reason),
+            reason: reason_number(reason),
             place,
         },
         Answer::CallRefused(check) => numbered(check_number(check), 0),

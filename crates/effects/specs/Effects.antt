@@ -18,7 +18,7 @@ use Rattle.panel.specs.declared.state.Keys.{Keys}
 use Rattle.panel.specs.declared.state.Pins.{Pins}
 use Rattle.panel.specs.declared.state.Body.{Body}
 use Rattle.panel.specs.State.{withStyle, withContrast, withBacklight, withLive, withKeys, withPins}
-use Rattle.glyphs.specs.Glyphs.{eightFrom, nestedOf, flatOf}
+use Rattle.glyphs.specs.Glyphs.{eightFrom, glyphsWith}
 
 -- 2: "writes user flash"
 abbrev pub withFlash : Body → List ℕ → Body
@@ -73,7 +73,7 @@ cleared s =
 
 -- 9: "sets a special glyph": index, then eight rows
 abbrev pub glyphSet : Shown → List ℕ → Shown
-glyphSet s d = record { text = s .text; glyphs = flatOf (set (nestedOf (s .glyphs)) (getD d 0 0) (eightFrom d 1)) }
+glyphSet s d = record { text = s .text; glyphs = glyphsWith (s .glyphs) (getD d 0 0) (eightFrom d 1) }
 
 -- 11: column, row
 abbrev pub cursorAt : List ℕ → Cursor

@@ -64,14 +64,11 @@ fn clear(mut s: Settings) -> Settings
     s
 }
 
-// The glyphs are an array of eight-byte arrays while one is set.
 fn set_glyph(mut s: Shown, content: &[u8]) -> Shown
     ensures { λ r. ⌜ r ≡ glyphSet s (now (content .entry)) ⌝ }
 {
     let flat = s.glyphs;
-    let rows = glyphs::eight(content, 1);
-    let nested = glyphs::set(glyphs::nested(flat), lists::at(content, 0), rows);
-    let glyphs = glyphs::flattened(nested);
+    let glyphs = glyphs::with_glyph(flat, lists::at(content, 0), glyphs::eight(content, 1));
     s.glyphs = glyphs;
     s
 }

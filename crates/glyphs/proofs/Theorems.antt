@@ -5,7 +5,7 @@ use mathlib.Core.List.{List, []}
 use lib.ListN.{length, getD}
 use Rattle.lists.specs.Promise.{Determined}
 use Rattle.lists.proofs.Theorems.{one}
-use Rattle.glyphs.specs.Glyphs.{nestedOf, flatOf, Reads8, Nests, Flattens, Sets}
+use Rattle.glyphs.specs.Glyphs.{nestedOf, flatOf, Reads8, Nests, SetsGlyph}
 use Rattle.glyphs.proofs.Flat.{nested-of-flat, flat-of-nested}
 
 -- The glyphs nested and flat are the same glyphs: either form, taken to the other and back, is as it was.
@@ -20,8 +20,5 @@ eight-determined bytes from = one _
 pub nested-determined : (flat : List ℕ) → Determined (Nests flat)
 nested-determined flat = one _
 
-pub flattened-determined : (glyphs : List (List ℕ)) → Determined (Flattens glyphs)
-flattened-determined glyphs = one _
-
-pub set-determined : (glyphs : List (List ℕ)) (number : ℕ) (rows : List ℕ) → Determined (Sets glyphs number rows)
-set-determined glyphs number rows = one _
+pub with-glyph-determined : (flat : List ℕ) (number : ℕ) (rows : List ℕ) → Determined (SetsGlyph flat number rows)
+with-glyph-determined flat number rows = one _

@@ -46,10 +46,10 @@ Reads8 bytes from r = r ≡ eightFrom bytes from
 abbrev pub Nests : List ℕ → List (List ℕ) → Type 0
 Nests flat r = r ≡ nestedOf flat
 
--- what `flattened` promises
-abbrev pub Flattens : List (List ℕ) → List ℕ → Type 0
-Flattens glyphs r = r ≡ flatOf glyphs
+-- the glyphs with one of them set
+abbrev pub glyphsWith : List ℕ → ℕ → List ℕ → List ℕ
+glyphsWith flat number rows = flatOf (set (nestedOf flat) number rows)
 
--- what `set` promises
-abbrev pub Sets : List (List ℕ) → ℕ → List ℕ → List (List ℕ) → Type 0
-Sets glyphs number rows r = r ≡ set glyphs number rows
+-- what `with_glyph` promises
+abbrev pub SetsGlyph : List ℕ → ℕ → List ℕ → List ℕ → Type 0
+SetsGlyph flat number rows r = r ≡ glyphsWith flat number rows

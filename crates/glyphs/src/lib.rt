@@ -1,5 +1,7 @@
 // The eight special glyphs: an array of eight-byte arrays while they are set or drawn, flat in the state.
-ghost use Rattle.glyphs.specs.Glyphs.{Reads8, Nests, Flattens, Sets};
+ghost use mathlib.Core.Path.{_≡_};
+ghost use lib.ListN.{set};
+ghost use Rattle.glyphs.specs.Glyphs.{flatOf, Reads8, Nests, SetsGlyph};
 
 // How many glyphs there are, the rows of each, and the bytes of all.
 pub const GLYPHS: usize = 8;
@@ -35,8 +37,8 @@ pub fn nested(flat: [u8; FLAT]) -> [[u8; ROWS]; GLYPHS]
 }
 
 // The glyphs one behind the other.
-pub fn flattened(glyphs: [[u8; ROWS]; GLYPHS]) -> [u8; FLAT]
-    ensures { λ r. ⌜ Flattens glyphs r ⌝ }
+fn flattened(glyphs: [[u8; ROWS]; GLYPHS]) -> [u8; FLAT]
+    ensures { λ r. ⌜ r ≡ flatOf glyphs ⌝ }
 {
     let mut flat = [0u8; FLAT];
     let mut g: usize = 0;
@@ -49,8 +51,8 @@ pub fn flattened(glyphs: [[u8; ROWS]; GLYPHS]) -> [u8; FLAT]
 }
 
 // The glyphs with one of them set; where there is none of that number, as they are.
-pub fn set(glyphs: [[u8; ROWS]; GLYPHS], number: u8, rows: [u8; ROWS]) -> [[u8; ROWS]; GLYPHS]
-    ensures { λ r. ⌜ Sets glyphs number rows r ⌝ }
+fn set(glyphs: [[u8; ROWS]; GLYPHS], number: u8, rows: [u8; ROWS]) -> [[u8; ROWS]; GLYPHS]
+    ensures { λ r. ⌜ r ≡ set glyphs number rows ⌝ }
 {
     let n = number as usize;
     let mut g = glyphs;
@@ -58,4 +60,11 @@ pub fn set(glyphs: [[u8; ROWS]; GLYPHS], number: u8, rows: [u8; ROWS]) -> [[u8; 
         g[n] = rows;
     }
     g
+}
+
+// The glyphs with one of them set.
+pub fn with_glyph(flat: [u8; FLAT], number: u8, rows: [u8; ROWS]) -> [u8; FLAT]
+    ensures { λ r. ⌜ SetsGlyph flat number rows r ⌝ }
+{
+    flattened(set(nested(flat), number, rows))
 }

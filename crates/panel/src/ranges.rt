@@ -1,5 +1,6 @@
 // Whether a state is in its ranges.
 ghost use mathlib.Core.Path.{_≡_};
+ghost use Rattle.lists.specs.Tests.{allAtMost};
 ghost use Rattle.panel.specs.Ranges.{configsInRange, cursorInRange, dialsInRange, masksInRange, settingsInRange, PartsRange, InputsRange, Ranges};
 use crate::state::Cursor;
 use crate::state::Dials;
@@ -28,6 +29,19 @@ fn masks_in_range(m: Masks) -> bool
     (m.press <= 63) & (m.release <= 63)
 }
 
+// Whether each byte is at most `most`.
+fn all_at_most(bytes: &[u8], most: u8) -> bool
+    ensures { λ r. ⌜ r ≡ allAtMost most (now (bytes .entry)) ⌝ }
+{
+    let mut ok = true;
+    let mut i = 0;
+    while i < bytes.len() {
+        ok = ok & (bytes[i] <= most);
+        i += 1;
+    }
+    ok
+}
+
 fn configs_in_range(configs: &[u8]) -> bool
     ensures { λ r. ⌜ r ≡ configsInRange (now (configs .entry)) ⌝ }
 {
@@ -51,11 +65,11 @@ pub fn parts_in_range(
 ) -> bool
     ensures { λ r. ⌜ PartsRange (now (glyphs .entry)) cursor dials masks (now (levels .entry)) (now (configs .entry)) r ⌝ }
 {
-    let rows = lists::all_at_most(glyphs, 63);
+    let rows = all_at_most(glyphs, 63);
     let places = cursor_in_range(cursor);
     let turned = dials_in_range(dials);
     let reported = masks_in_range(masks);
-    let heights = lists::all_at_most(levels, 100);
+    let heights = all_at_most(levels, 100);
     let drives = configs_in_range(configs);
     rows & places & turned & reported & heights & drives
 }

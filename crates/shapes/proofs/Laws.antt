@@ -161,6 +161,10 @@ pub run-lays : {n : ℕ} {v o o₁ : List ℕ} {k : ℕ} → o₁ ≡ pasted o k
 unfolding laid
 run-lays p l = record { is = p; sized = l }
 
+pub counter-lays : {v : ℕ} {o o₁ : List ℕ} {k : ℕ} → Lays byte (v % 256) o k o₁ → Lays counter v o k o₁
+unfolding laid
+counter-lays p = record { is = p .is; sized = tt }
+
 pub then-lays : {s t : Shape} {v : Value s} {w : Value t} {o o₁ o₂ : List ℕ} {k : ℕ} → Lays t w o₁ (k + size s) o₂ → Lays s v o k o₁ → Lays (s ▸ t) (v & w) o k o₂
 unfolding laid
 then-lays q p = record { is = rw (p .is) at (q .is); sized = (p .sized, q .sized) }

@@ -5,16 +5,13 @@ use mathlib.Core.List.{List}
 use Rattle.lists.specs.Promise.{Determined}
 use Rattle.lists.proofs.Theorems.{one}
 use Rattle.shapes.specs.Words.{ReadsWord, WritesWord}
-use Rattle.shapes.specs.Shape.{Shape, byte, counter, word, Value, Lays, Fills}
+use Rattle.shapes.specs.Shape.{Shape, byte, word, Value, Lays, Fills}
 
 lays-determined : (s : Shape) (v : Value s) (out : List ℕ) (place : ℕ) → Determined (Lays s v out place)
 lays-determined s v out place x y p q = p .is ∙ sym (q .is)
 
 pub lay-byte-determined : (out : List ℕ) (place x : ℕ) → Determined (Lays byte x out place)
 lay-byte-determined out place x = lays-determined byte x out place
-
-pub lay-counter-determined : (out : List ℕ) (place n : ℕ) → Determined (Lays counter n out place)
-lay-counter-determined out place n = lays-determined counter n out place
 
 pub lay-word-determined : (out : List ℕ) (place n : ℕ) → Determined (Lays word n out place)
 lay-word-determined out place n = lays-determined word n out place

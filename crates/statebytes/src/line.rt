@@ -11,7 +11,7 @@ use crate::places::SIZE;
 use crate::places::UNFILED;
 use packets::hold::Hold;
 use panel::state::Line;
-use shapes::lay_counter;
+use shapes::lay_byte;
 use shapes::lay_word;
 use shapes::words::word_of;
 
@@ -53,7 +53,7 @@ pub fn read_line(state: &[u8]) -> Line
 fn lay_line(state: &mut [u8], l: Line)
     ensures { λ r. ⌜ Lays lineShape (lineParts l) (now (state .entry)) 0 (now (state .exit)) ⌝ }
 {
-    lay_counter(state, COUNT, l.hold.count);
+    lay_byte(state, COUNT, (l.hold.count % 256) as u8);
     lists::paste(state, HELD, &l.hold.bytes);
     lay_word(state, UNFILED, l.unfiled);
 }

@@ -14,7 +14,7 @@ use Rattle.verdict.specs.declared.verdict.Reason.{Reason}
 use Rattle.verdict.specs.declared.verdict.Reason.the-variants.{DataOutOfRange}
 use Rattle.verdict.specs.declared.verdict.Verdict.the-variants.{Refused}
 use Rattle.table.specs.Table.{table, lookUp}
-use Rattle.verdict.specs.Verdict.{inRange, firstOut, Rules, HasNumber}
+use Rattle.verdict.specs.Verdict.{inRange, firstOut, Rules}
 use Rattle.table.proofs.Rows.{longest-22}
 use Rattle.verdict.proofs.Reasons.{Seen, no-command, short, long, out, together, see, late}
 
@@ -50,6 +50,3 @@ module _ (code : ℕ) (content : List ℕ) where
 -- For each public function, any two results that its promise allows are equal.
 pub verdict-on-determined : (code : ℕ) (content : List ℕ) → Determined (Rules code content)
 verdict-on-determined code content = one _
-
-pub reason-number-determined : (reason : Reason) → Determined (HasNumber reason)
-reason-number-determined reason = one _

@@ -75,7 +75,3 @@ reasonNumber NotTheReboot = 5
 -- what `verdict_on` promises
 abbrev pub Rules : ℕ → List ℕ → Verdict → Type 0
 Rules code d r = r ≡ verdictOf code d
-
--- what `reason_number` promises
-abbrev pub HasNumber : Reason → ℕ → Type 0
-HasNumber reason r = r ≡ reasonNumber reason

@@ -2,7 +2,7 @@
 ghost use mathlib.Core.Path.{_≡_};
 ghost use Prim.Native.Nat.{_<_, _≤_};
 ghost use lib.ListN.{length};
-ghost use Rattle.verdict.specs.Verdict.{inRange, firstOut, isReboot, wholeVerdict, Rules, HasNumber};
+ghost use Rattle.verdict.specs.Verdict.{inRange, firstOut, isReboot, wholeVerdict, Rules};
 use table::Rule;
 
 // The reasons, in the order in which they are looked for.
@@ -129,17 +129,4 @@ pub fn verdict_on(code: u8, content: &[u8]) -> Verdict
         return Verdict::Refused(Reason::DataOutOfRange, (2 + i) as u8);
     }
     whole(rule, content)
-}
-
-// Document 01's number of a reason.
-pub fn reason_number(reason: Reason) -> u8
-    ensures { λ r. ⌜ HasNumber reason r ⌝ }
-{
-    match reason {
-        Reason::UnknownCommand => 1,
-        Reason::LengthNotAllowed => 2,
-        Reason::DataOutOfRange => 3,
-        Reason::PastColumn19 => 4,
-        Reason::NotTheReboot => 5,
-    }
 }

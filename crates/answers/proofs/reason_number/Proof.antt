@@ -1,6 +1,6 @@
 use borrow.Author.Needs.{needs}
-use Rattle.verdict.proofs.verdict.reason_number.Statement.{statement}
-use Rattle.verdict.proofs.verdict.reason_number.Tie as tie
+use Rattle.answers.proofs.reason_number.Statement.{statement}
+use Rattle.answers.proofs.reason_number.Tie as tie
 
 pub reason-number-spec : {M : Type 1} → statement M
 reason-number-spec =
