@@ -8,7 +8,7 @@ use borrow.Author.Tests.{eqb-true}
 use Rattle.lists.specs.Tests.{when_then_else_}
 use Rattle.panel.specs.declared.state.Panel.{Panel}
 use Rattle.panel.specs.Ranges.{inRanges}
-use Rattle.command.specs.Commands.{carried}
+use Rattle.perform.specs.Commands.{carried}
 use Rattle.picture.proofs.Changes.{changed-same, painted-same}
 use Rattle.picture.proofs.Sizes.{repaints-sized}
 use Rattle.answers.specs.declared.Filing.{Filing}

@@ -9,7 +9,7 @@ use Rattle.lists.specs.Runs.{front}
 use Rattle.panel.specs.declared.state.Body.{Body}
 use Rattle.panel.specs.declared.state.Panel.{Panel}
 use Rattle.panel.specs.Ranges.{inRanges}
-use Rattle.command.specs.Commands.{carried}
+use Rattle.perform.specs.Commands.{carried}
 use Rattle.picture.specs.Repaint.{changed, painted}
 use Rattle.filing.specs.declared.Record.{Record}
 use Rattle.filing.specs.Filing.{Files, filedIf}

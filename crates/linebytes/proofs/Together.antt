@@ -23,7 +23,7 @@ use Rattle.answers.proofs.Checks.{decided-fails, decided-passes, accepted-by, r
 use Rattle.listen.specs.declared.Heard.{Heard}
 use Rattle.listen.specs.Listen.{lineTests, unheard, listened, listenedReply, HearsPiece}
 use Rattle.listen.proofs.Done.{done-number}
-use Rattle.command.specs.Commands.{carried}
+use Rattle.perform.specs.Commands.{carried}
 use Rattle.perform.specs.declared.Performed.{Performed}
 use Rattle.perform.specs.Perform.{replyLength, Performs}
 use Rattle.calls.specs.Line.{Lent, sizesOf, lineHeard, saidWith, lineSaid, linePicture, lineList, lineReply}

@@ -10,7 +10,7 @@ use Rattle.answers.specs.declared.Answer.{Answer}
 use Rattle.answers.specs.declared.Said.{Said}
 use Rattle.answers.specs.Answer.{numbersOf, filingOf, withUnfiled}
 use Rattle.listen.specs.declared.Heard.{Heard}
-use Rattle.command.specs.Commands.{carried}
+use Rattle.perform.specs.Commands.{carried}
 use Rattle.perform.specs.Perform.{shownBy, replyLength, replyWritten}
 use Rattle.picture.specs.Repaint.{RepaintsSized}
 use Rattle.calls.specs.Line.{Lent, lineSaid, linePicture, lineList, lineReply}

@@ -5,7 +5,7 @@ use mathlib.Core.List.{List}
 use Rattle.lists.specs.Promise.{Determined}
 use Rattle.packets.specs.declared.packet.Packet.{Packet}
 use Rattle.panel.specs.declared.state.Body.{Body}
-use Rattle.command.specs.Commands.{carried}
+use Rattle.perform.specs.Commands.{carried}
 use Rattle.picture.proofs.Theorems.{repaint-determined}
 use Rattle.perform.specs.declared.Performed.{Performed}
 use Rattle.perform.specs.Perform.{shownBy, Performs}

@@ -5,7 +5,7 @@ use mathlib.Core.List.{List}
 use Rattle.packets.specs.declared.packet.Packet.{Packet}
 use Rattle.packets.specs.Packet.{contentOf, composedLength, composed}
 use Rattle.panel.specs.declared.state.Body.{Body}
-use Rattle.command.specs.Commands.{carried}
+use Rattle.perform.specs.Commands.{carried}
 use Rattle.picture.specs.Draw.{Screen, screenOf}
 use Rattle.picture.specs.Repaint.{RepaintsSized}
 use Rattle.perform.specs.declared.Performed.{Performed}

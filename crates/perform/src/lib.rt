@@ -20,7 +20,7 @@ fn reply_with(packet: Packet, reply: &mut [u8]) -> usize
     packets::packet::compose(reply, packet.kind, &content[..n])
 }
 
-// Carries a packet's command out. Whether it is allowed is for the verdict to say.
+// Carries a packet's command out; the reply is made from the body before it. Whether it is allowed is for the verdict to say.
 pub fn perform(
     body: Body,
     packet: Packet,
@@ -31,12 +31,12 @@ pub fn perform(
 ) -> Performed
     ensures { λ r. ⌜ Performs body packet (now (picture .entry)) (now (font .entry)) (now (list .entry)) (now (reply .entry)) r (now (picture .exit)) (now (list .exit)) (now (reply .exit)) ⌝ }
 {
-    let c = command::carry::carry_out(body, packet);
-    let written = reply_with(c.reply, reply);
+    let after = effects::effect_of(body, packet);
+    let answer = replies::reply_to(body, packet);
+    let written = reply_with(answer, reply);
     let was = body.live.shown;
-    let is = c.body.live.shown;
+    let is = after.live.shown;
     let listed = picture::repaint::repaint(picture, list, was, is, font);
-    let after = c.body;
     Performed {
         body: after,
         reply: written,

@@ -35,7 +35,7 @@ use Rattle.answers.proofs.Checks.{refused-from-ten}
 use Rattle.listen.specs.declared.Heard.{Heard}
 use Rattle.listen.specs.Reply.{errorType, refusedLength, refusedReply}
 use Rattle.listen.specs.Listen.{answerIn, heardOf, heardReply}
-use Rattle.command.specs.Commands.{carried}
+use Rattle.perform.specs.Commands.{carried}
 use Rattle.perform.specs.Perform.{shownBy, replyLength, replyWritten}
 use Rattle.calls.specs.Line.{Lent, lineHeard, lineDone, bodyAfter, altered, saidWith, lineSaid, linePicture, lineList, lineReply, filesAfter, LineCall}
 use Rattle.theorems.proofs.Fronts.{front-own, front-behind}

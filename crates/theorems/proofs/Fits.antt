@@ -25,7 +25,7 @@ use Rattle.answers.specs.declared.Said.{Said}
 use Rattle.answers.specs.Answer.{filingOf, refusedCall}
 use Rattle.answers.proofs.Checks.{refused-by, accepted-by, either-way}
 use Rattle.effects.specs.Effects.{liveAfter, effect}
-use Rattle.command.specs.Commands.{carried}
+use Rattle.perform.specs.Commands.{carried}
 use Rattle.calls.specs.Line.{Lent, lineHeard, LineCall}
 use Rattle.shapes.specs.Shape.{Fits}
 use Rattle.statebytes.specs.Layout.{lineShape, lineParts, settingsShape, settingsParts, bodyShape, bodyParts}

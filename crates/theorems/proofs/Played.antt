@@ -15,7 +15,7 @@ use Rattle.panel.specs.declared.state.Body.{Body}
 use Rattle.picture.specs.Repaint.{changed}
 use Rattle.answers.specs.Answer.{numbersOf, isDone}
 use Rattle.listen.specs.Reply.{answerTo, errorType}
-use Rattle.command.specs.Commands.{carried}
+use Rattle.perform.specs.Commands.{carried}
 use Rattle.perform.specs.Perform.{shownBy}
 use Rattle.theorems.specs.Other.{Other}
 use Rattle.theorems.specs.Story.{Entry, packet, other, replied, Place, after, callPlaces}

@@ -35,7 +35,7 @@ use Rattle.answers.proofs.Checks.{First, here, later, Pass, refused-from-ten}
 use Rattle.listen.specs.declared.Heard.{Heard}
 use Rattle.listen.specs.Reply.{answerTo, errorType, refusedLength, refusedReply}
 use Rattle.listen.specs.Listen.{answerIn, heardOf, heardReply}
-use Rattle.command.specs.Commands.{carried}
+use Rattle.perform.specs.Commands.{carried}
 use Rattle.perform.specs.Perform.{shownBy, replyLength, replyWritten}
 use Rattle.calls.specs.Line.{Lent, lent, lineHeard, lineDone, bodyAfter, altered, lineSaid, lineList, lineReply, filesAfter}
 use Rattle.theorems.specs.Other.{Other, Answers}

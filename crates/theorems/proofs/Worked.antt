@@ -16,7 +16,7 @@ use Rattle.panel.specs.State.{factorySettings, poweredOn}
 use Rattle.panel.specs.Ranges.{allOf, cursorInRange, dialsInRange, masksInRange, partsInRange, keysInRange, pinsInRange, inRanges}
 use Rattle.effects.specs.Effects.{liveAfter, effect}
 use Rattle.replies.specs.Replies.{memory, edges, replyData}
-use Rattle.command.specs.Commands.{carried}
+use Rattle.perform.specs.Commands.{carried}
 use Rattle.picture.specs.Draw.{sourceOf, drawnFrom, codeDrawn}
 use Rattle.picture.specs.Repaint.{same, changedBelow}
 use Rattle.answers.specs.Answer.{checkNumber, numbersOf, isDone}

@@ -1,28 +1,32 @@
 use mathlib.Core.Path.{_∙_, ap}
-use Rattle.command.specs.declared.carry.Carried.{Carried}
+use Rattle.packets.specs.declared.packet.Packet.{Packet}
+use Rattle.perform.specs.Commands.{carried}
 use Rattle.perform.specs.Perform.{replyLength, replyWritten}
 use borrow.Author.Needs.{needs}
 use Rattle.perform.proofs.perform.Statement.{statement}
 use Rattle.perform.proofs.perform.Tie as tie
 
 returns : tie.Need-returns
+unfolding carried
 returns c =
-    let painting = c .before .before .before .before .before in
+    let painting = c .before .before .before .before in
     let replying = painting .before .before .before .before .before .before .before in
-    let carrying = replying .before .before in
-    let out = carrying .before .before .before .before .before .args .reply .now in
-    let e = carrying .carry-out .ensures in
+    let making = replying .before .before in
+    let out = making .before .before .before .before .before .before .args .reply .now in
+    let did = making .before .effect-of .ensures in
+    let made = making .reply-to .ensures in
     record {
-      body = ap (λ (k : Carried). k .body) e;
-      written = replying .reply-with .ensures .0 ∙ ap (λ (k : Carried). replyLength (k .reply) out) e;
-      replied = replying .reply-with .ensures .1 ∙ ap (λ (k : Carried). replyWritten (k .reply) out) e;
-      repaints = rw e at (painting .repaint .ensures);
+      body = did;
+      written = replying .reply-with .ensures .0 ∙ ap (λ (k : Packet). replyLength k out) made;
+      replied = replying .reply-with .ensures .1 ∙ ap (λ (k : Packet). replyWritten k out) made;
+      repaints = rw did at (painting .repaint .ensures);
     }
 
 pub perform-spec : {M : Type 1} → statement M
 perform-spec =
     tie.close
     (tie.spec
+    (λ c κs. search needs)
     (λ c κs. search needs)
     (λ c κs. search needs)
     (λ c κs. search needs)
