@@ -1,3 +1,2 @@
 pub mod LineCalls
 pub mod Theorems
-pub mod Ways

@@ -6,7 +6,7 @@ use Rattle.lists.specs.Promise.{Determined}
 use Rattle.panel.specs.declared.state.Panel.{Panel}
 use Rattle.filing.specs.declared.Record.{Record}
 use Rattle.answers.specs.declared.Said.{Said}
-use Rattle.calls.specs.Line.{Lent, LineCall}
+use Rattle.linecall.specs.Line.{Lent, LineCall}
 
 pub line-determined : (p : Panel) (l : Lent) (register : List Record)
     → Determined (λ (x : Said × List ℕ × List ℕ × List ℕ × List Record). LineCall p l register (x .0) (x .1) (x .2) (x .3) (x .4))

@@ -2,7 +2,8 @@
 ghost use mathlib.Core.Path.{_≡_};
 ghost use lib.ListN.{length};
 ghost use Rattle.answers.specs.Answer.{withUnfiled};
-ghost use Rattle.calls.specs.Line.{saidWith, lent, HearsAll, LineCall};
+ghost use Rattle.linecall.specs.Line.{saidWith, lent, LineCall};
+ghost use Rattle.calls.specs.Line.{HearsAll};
 use answers::Filing;
 use answers::Said;
 use filing::Record;

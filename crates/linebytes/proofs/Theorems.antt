@@ -3,7 +3,7 @@ use Prim.Native.Nat.{ℕ}
 use mathlib.Core.Path.{sym, _∙_}
 use mathlib.Core.List.{List}
 use Rattle.lists.specs.Promise.{Determined}
-use Rattle.calls.specs.Line.{Lent}
+use Rattle.linecall.specs.Line.{Lent}
 use Rattle.linebytes.specs.Line.{LineBytes}
 
 pub line-determined : (state : List ℕ) (l : Lent) (faults : List ℕ)

@@ -19,15 +19,15 @@ use Rattle.answers.specs.declared.Answer.the-variants.{CallRefused}
 use Rattle.answers.specs.declared.Said.{Said}
 use Rattle.answers.specs.Answer.{checkNumber, numbersOf, isDone, withUnfiled}
 use Rattle.answers.specs.Checks.{Test, decided, checkedBy}
-use Rattle.answers.proofs.Checks.{decided-fails, decided-passes, accepted-by, refused-from-ten}
+use Rattle.answers.proofs.Checks.{refused-from-ten}
 use Rattle.listen.specs.declared.Heard.{Heard}
-use Rattle.listen.specs.Listen.{lineTests, unheard, listened, listenedReply, HearsPiece}
+use Rattle.listen.specs.Listen.{lineTests, HearsPiece}
 use Rattle.listen.proofs.Done.{done-number}
 use Rattle.perform.specs.Commands.{carried}
 use Rattle.perform.specs.declared.Performed.{Performed}
 use Rattle.perform.specs.Perform.{replyLength, Performs}
-use Rattle.calls.specs.Line.{Lent, sizesOf, lineHeard, saidWith, lineSaid, linePicture, lineList, lineReply}
-use Rattle.calls.proofs.Ways.{replyOnceHeard, hears-performed, hears-left}
+use Rattle.linecall.specs.Line.{Lent, sizesOf, lineHeard, saidWith, lineSaid, linePicture, lineList, lineReply}
+use Rattle.linecall.proofs.Ways.{testsOf, replyOnceHeard, says-performed, says-left, says-refused, passed-heard}
 use Rattle.statebytes.specs.Layout.{lineShape, lineParts}
 use Rattle.statebytes.specs.State.{bytesOf, panelOf, isState, stateWith, rangesOf, lineReadOf, bodyReadOf}
 use Rattle.statebytes.proofs.Theorems.{line-written}
@@ -61,7 +61,7 @@ none-checked : (s : List ℕ) (l : Lent) → isState s ≡ false → checkedBy (
 unfolding rangesOf decided
 none-checked s l e = when-false _ _ _ (when-false _ _ _ e)
 
-state-checked : (s : List ℕ) (l : Lent) → isState s ≡ true → testsOn s l ≡ lineTests (inRanges (panelOf s)) (length (l .piece)) (sizesOf l) (length (l .reply))
+state-checked : (s : List ℕ) (l : Lent) → isState s ≡ true → testsOn s l ≡ testsOf (panelOf s) l
 unfolding rangesOf
 state-checked s l e = ap (λ (b : Bool). lineTests b (length (l .piece)) (sizesOf l) (length (l .reply))) (when-true _ _ _ e)
 
@@ -82,13 +82,12 @@ module _ (s : List ℕ) (l : Lent) (f : List ℕ) (c : Check) (fails : checkedBy
       }
 
   state-refused : isState s ≡ true → LineBytes s l f m s (l .picture) (l .list) (l .reply) f said′
-  unfolding listened listenedReply isDone stateAfter numbersOf
+  unfolding stateAfter numbersOf
   state-refused e =
       let p = panelOf s in
-      let q = rw (state-checked s l e) at fails in
-      let all = hears-left p l {h = unheard (p .line) c} (sym (decided-fails _ q _ _)) (sym (decided-fails _ q _ _)) refl refl refl in
+      let all = says-refused p l c (rw (state-checked s l e) at fails) in
       let ten = refused-from-ten c in
-      said-of-bytes s l f e _ (all .1) (says .0) (sym (when-false _ _ _ (le-ltb _ _ ten))) (all .2) (all .3) (all .4)
+      said-of-bytes s l f e _ (all .0) (says .0) (sym (when-false _ _ _ (le-ltb _ _ ten))) (all .1) (all .2) (all .3)
       (none-filed (CallRefused c) (p .line .unfiled) f (ne-eqb (numbersOf (CallRefused c) .number) 4 (λ z. absurd (omega (arith, ten)))) .1) (says .1)
 
   pub refused-line : LineBytes s l f m s (l .picture) (l .list) (l .reply) f said′
@@ -112,20 +111,17 @@ module _ (s : List ℕ) (l : Lent) (f : List ℕ) (passes : checkedBy (testsOn s
 
   -- the line's part is heard as the panel's
   heard-as : (h ≡ lineHeard p l) × (reply₁ ≡ replyOnceHeard p l)
-  unfolding lineReadOf listened listenedReply
-  heard-as =
-      let q = decided-passes _ (rw (state-checked s l is-state) at passes) in
-      let w = rw (when-true _ _ _ is-state) at hears in
-      (w .0 ∙ sym (accepted-by _ q _ _), w .1 ∙ sym (accepted-by _ q _ _))
+  unfolding lineReadOf
+  heard-as = passed-heard p l (rw (state-checked s l is-state) at passes) (rw (when-true _ _ _ is-state) at hears)
 
   pub turned-down-line : isDone (h .answer) ≡ false → Bytes s → Sized lineShape (lineParts (h .line)) → {m : ℕ} {s′ f′ said′ : List ℕ} → TurnsDown s h f m s′ f′ said′
       → LineBytes s l f m s′ (l .picture) (l .list) reply₁ f′ said′
   unfolding stateAfter
   turned-down-line d small sized w =
       let q = heard-as in
-      let all = hears-left p l (q .0) (q .1) refl d refl in
+      let all = says-left p l (q .0) (q .1) d in
       let written = line-written s (eqb-true _ _ is-state) small (lineUnfiled (h .line) (filesBy (h .answer) (h .line .unfiled) f .unfiled)) sized in
-      said-of-bytes s l f is-state _ (all .1) (w .number) (w .state ∙ ap (λ (b : List ℕ). when numbersOf (h .answer) .number <? 10 then b else s) written) (all .2) (all .3) (all .4) (w .faults) (w .said)
+      said-of-bytes s l f is-state _ (all .0) (w .number) (w .state ∙ ap (λ (b : List ℕ). when numbersOf (h .answer) .number <? 10 then b else s) written) (all .1) (all .2) (all .3) (w .faults) (w .said)
 
   pub carried-out-line : isDone (h .answer) ≡ true → {m : ℕ} {s′ p′ l′ r′ said′ : List ℕ} → CarriesOut s h (l .picture) (l .font) (l .list) reply₁ m s′ p′ l′ r′ said′
       → LineBytes s l f m s′ p′ l′ r′ f said′
@@ -137,9 +133,9 @@ module _ (s : List ℕ) (l : Lent) (f : List ℕ) (passes : checkedBy (testsOn s
       let body : bodyReadOf s ≡ p .body = when-true _ _ _ e in
       let z : Performed = record { body = c .body; reply = replyLength (c .reply) reply₁; listed = w .listed } in
       let did : Performs (p .body) (h .packet) (l .picture) (l .font) (l .list) reply₁ z p′ l′ r′ = record { body = refl; written = refl; replied = rw body at (w .reply); repaints = rw body at (w .repaints) } in
-      let all = hears-performed p l (q .0) (q .1) refl d did refl in
+      let all = says-performed p l (q .0) (q .1) d did in
       let three = done-number (h .answer) d in
       let unfiled = none-filed (h .answer) (h .line .unfiled) f (rw three) in
-      said-of-bytes s l f e (saidWith h z) (all .1) (w .number)
+      said-of-bytes s l f e (saidWith h z) (all .0) (w .number)
       ((rw body at (w .state)) ∙ when-true _ _ _ e ∙ ap (λ (u : ℕ). bytesOf (record { line = lineUnfiled (h .line) u; body = c .body })) (unfiled .0) ∙ sym (when-true _ _ _ (rw three)))
-      (all .2) (all .3) (all .4) (unfiled .1) (rw body at (w .said))
+      (all .1) (all .2) (all .3) (unfiled .1) (rw body at (w .said))

@@ -13,7 +13,7 @@ use Rattle.listen.specs.declared.Heard.{Heard}
 use Rattle.perform.specs.Commands.{carried}
 use Rattle.perform.specs.Perform.{shownBy, replyLength, replyWritten}
 use Rattle.picture.specs.Repaint.{RepaintsSized}
-use Rattle.calls.specs.Line.{Lent, lineSaid, linePicture, lineList, lineReply}
+use Rattle.linecall.specs.Line.{Lent, lineSaid, linePicture, lineList, lineReply}
 use Rattle.statebytes.specs.State.{bytesOf, onState, stateWith, lineWith, bodyReadOf}
 use Rattle.registerbytes.specs.Register.{registerSize, registerOf, registerWith}
 use Rattle.saidbytes.specs.Says.{saidBytes, numberOf, bytesSaid, noState}

@@ -1,7 +1,7 @@
 // The line call over lent bytes: the body is read only where a command is performed, the register only where a packet is refused.
 ghost use mathlib.Core.Path.{_≡_};
 ghost use lib.ListN.{length};
-ghost use Rattle.calls.specs.Line.{lent};
+ghost use Rattle.linecall.specs.Line.{lent};
 ghost use Rattle.linebytes.specs.Line.{recordsIn, FilesBytes, TurnsDown, CarriesOut, LineBytes};
 use answers::Answer;
 use answers::Checked;

@@ -4,7 +4,7 @@ use mathlib.Core.Path.{sym, _∙_}
 use mathlib.Core.Bool.{Bool}
 use mathlib.Core.List.{List}
 use Rattle.lists.specs.Promise.{Determined}
-use Rattle.calls.specs.Line.{Lent}
+use Rattle.linecall.specs.Line.{Lent}
 use Rattle.linebytes.specs.Line.{LineBytes}
 use Rattle.linebytes.proofs.Theorems as bytes
 use Rattle.naupelys.specs.Calls.{PowerOnBytes, KeyBytes, PinBytes}

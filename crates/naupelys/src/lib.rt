@@ -3,7 +3,7 @@ ghost use mathlib.Core.Path.{_≡_};
 ghost use lib.ListN.{length};
 ghost use Rattle.statebytes.specs.State.{stateSize, panelOf};
 ghost use Rattle.saidbytes.specs.Says.{noState};
-ghost use Rattle.calls.specs.Line.{lent};
+ghost use Rattle.linecall.specs.Line.{lent};
 ghost use Rattle.linebytes.specs.Line.{recordsIn, LineBytes};
 ghost use Rattle.naupelys.specs.Calls.{Told, EndsCall, PowerOnBytes, KeyBytes, PinBytes};
 use answers::Check;

@@ -3,7 +3,7 @@ use Prim.Native.Nat.{ℕ, _-_, min}
 use mathlib.Core.Path.{_≡_}
 use mathlib.Core.List.{List}
 use lib.ListN.{length, take, drop}
-use Rattle.calls.specs.Line.{lent}
+use Rattle.linecall.specs.Line.{lent}
 use Rattle.linebytes.specs.Line.{recordsIn, LineBytes}
 use Rattle.saidbytes.specs.Told.{callOf}
 use Rattle.kept.specs.declared.Session.{Session}

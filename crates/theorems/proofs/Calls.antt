@@ -37,7 +37,7 @@ use Rattle.listen.specs.Reply.{errorType, refusedLength, refusedReply}
 use Rattle.listen.specs.Listen.{answerIn, heardOf, heardReply}
 use Rattle.perform.specs.Commands.{carried}
 use Rattle.perform.specs.Perform.{shownBy, replyLength, replyWritten}
-use Rattle.calls.specs.Line.{Lent, lineHeard, lineDone, bodyAfter, altered, saidWith, lineSaid, linePicture, lineList, lineReply, filesAfter, LineCall}
+use Rattle.linecall.specs.Line.{Lent, lineHeard, lineDone, bodyAfter, altered, saidWith, lineSaid, linePicture, lineList, lineReply, filesAfter, LineCall}
 use Rattle.theorems.proofs.Fronts.{front-own, front-behind}
 use Rattle.theorems.proofs.Outcomes.{scanOf, replyHeard, Outcome, turned-away, waits, finds, strays, does, refuses, outcome}
 

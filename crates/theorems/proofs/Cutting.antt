@@ -22,7 +22,7 @@ use Rattle.registerbytes.specs.Register.{recordsLent}
 use Rattle.statebytes.specs.State.{onState}
 use Rattle.saidbytes.specs.Says.{numberOf, bytesSaid, noState}
 use Rattle.linebytes.specs.Line.{recordsIn, faultsAfter, stateAfter, lineFiled}
-use Rattle.calls.specs.Line.{Lent, lent, lineSaid, linePicture, lineList, lineReply}
+use Rattle.linecall.specs.Line.{Lent, lent, lineSaid, linePicture, lineList, lineReply}
 use Rattle.theorems.specs.Other.{Other, AnswersBytes}
 use Rattle.theorems.specs.Run.{World, withPanel, withRegister}
 use Rattle.theorems.specs.Story as story

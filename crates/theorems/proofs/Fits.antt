@@ -26,7 +26,7 @@ use Rattle.answers.specs.Answer.{filingOf, refusedCall}
 use Rattle.answers.proofs.Checks.{refused-by, accepted-by, either-way}
 use Rattle.effects.specs.Effects.{liveAfter, effect}
 use Rattle.perform.specs.Commands.{carried}
-use Rattle.calls.specs.Line.{Lent, lineHeard, LineCall}
+use Rattle.linecall.specs.Line.{Lent, lineHeard, LineCall}
 use Rattle.shapes.specs.Shape.{Fits}
 use Rattle.statebytes.specs.Layout.{lineShape, lineParts, settingsShape, settingsParts, bodyShape, bodyParts}
 use Rattle.statebytes.specs.State.{PanelFits}

@@ -24,7 +24,7 @@ use Rattle.picture.specs.Repaint.{ListedIn}
 use Rattle.answers.specs.Answer.{numbersOf}
 use Rattle.perform.specs.Perform.{shownBy}
 use Rattle.power.specs.Power.{powerSaid, powerPicture, PowersOn}
-use Rattle.calls.specs.Line.{Lent, lineSaid}
+use Rattle.linecall.specs.Line.{Lent, lineSaid}
 use Rattle.statebytes.specs.State.{bytesOf, panelOf, isState, PanelFits}
 use Rattle.statebytes.proofs.Theorems.{power-fits}
 use Rattle.registerbytes.specs.Register.{recordShape, recordFrom, registerShape, registerSize, isRegister, recordsLent}

@@ -25,7 +25,7 @@ use Rattle.answers.specs.Answer.{isDone, filingOf}
 use Rattle.listen.specs.declared.Heard.{Heard}
 use Rattle.listen.specs.Listen.{answerIn}
 use Rattle.perform.specs.Commands.{carried}
-use Rattle.calls.specs.Line.{Lent, lineHeard, bodyAfter, lineSaid, filesAfter, LineCall}
+use Rattle.linecall.specs.Line.{Lent, lineHeard, bodyAfter, lineSaid, filesAfter, LineCall}
 use Rattle.theorems.proofs.Effects.{BodyInRange, body-in-range, effect-stays-in-range}
 use Rattle.theorems.proofs.Outcomes.{scanOf, Outcome, turned-away, waits, finds, strays, does, refuses, outcome}
 

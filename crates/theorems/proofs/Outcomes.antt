@@ -23,7 +23,7 @@ use Rattle.answers.specs.Checks.{Test}
 use Rattle.answers.proofs.Checks.{First, Pass, refused-by, accepted-by, either-way}
 use Rattle.listen.specs.Reply.{answerTo, ruling}
 use Rattle.listen.specs.Listen.{lineTests, unheard, answerIn, heardOf, heardReply, scannedBy, listened, listenedReply}
-use Rattle.calls.specs.Line.{Lent, sizesOf, lineHeard}
+use Rattle.linecall.specs.Line.{Lent, sizesOf, lineHeard}
 
 -- the call's checks, and what its scan finds
 abbrev pub testsOf : Panel → Lent → List Test

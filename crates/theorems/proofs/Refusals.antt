@@ -21,7 +21,7 @@ use Rattle.answers.specs.declared.Answer.the-variants.{Waiting, Stray, Done, Re
 use Rattle.answers.specs.declared.Said.{Said}
 use Rattle.answers.specs.Answer.{numbersOf, filingOf}
 use Rattle.answers.proofs.Checks.{Pass, refused-from-ten}
-use Rattle.calls.specs.Line.{lineList, lineReply}
+use Rattle.linecall.specs.Line.{lineList, lineReply}
 use Rattle.statebytes.specs.State.{panelOf}
 use Rattle.registerbytes.specs.Register.{registerSize, recordsLent, registerBytes, registerOf, registerWith}
 use Rattle.saidbytes.specs.Says.{numberOf}

@@ -29,7 +29,7 @@ use Rattle.answers.specs.Answer.{numbersOf, filingOf, refusedCall, acceptedCall
 use Rattle.answers.proofs.Checks.{refused-by, accepted-by, either-way, call-passed, call-refused, call-unchanged}
 use Rattle.perform.specs.Perform.{shownBy}
 use Rattle.power.specs.Power.{powerTests, PowersOn}
-use Rattle.calls.specs.Line.{Lent, lent, lineHeard, bodyAfter, lineSaid, linePicture, lineList, lineReply, filesAfter}
+use Rattle.linecall.specs.Line.{Lent, lent, lineHeard, bodyAfter, lineSaid, linePicture, lineList, lineReply, filesAfter}
 use Rattle.theorems.specs.Other.{Other, Answers}
 use Rattle.theorems.specs.Run.{Call, line, other, World, withPanel, withRegister, filesOf, refusedIn, Hears, Makes, hears, answers, lentBack, Runs, done, more, Afresh}
 use Rattle.theorems.proofs.Others as others

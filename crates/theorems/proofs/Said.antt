@@ -24,7 +24,7 @@ use Rattle.listen.specs.declared.Heard.{Heard}
 use Rattle.listen.specs.Reply.{refusedLength}
 use Rattle.listen.specs.Listen.{heardOf}
 use Rattle.perform.specs.Perform.{shownBy}
-use Rattle.calls.specs.Line.{Lent, lineHeard, lineDone, bodyAfter, lineSaid}
+use Rattle.linecall.specs.Line.{Lent, lineHeard, lineDone, bodyAfter, lineSaid}
 use Rattle.saidbytes.specs.Says.{saidBytes, numberOf, bytesSaid}
 use Rattle.theorems.specs.Other.{Other}
 use Rattle.theorems.specs.Cuts.{answerBytes, takenIn}

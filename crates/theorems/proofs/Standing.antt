@@ -21,7 +21,7 @@ use Rattle.answers.specs.declared.Said.{Said}
 use Rattle.answers.specs.Answer.{numbersOf, refusedCall, withUnfiled}
 use Rattle.answers.proofs.Checks.{Pass, refused-from-ten}
 use Rattle.perform.specs.Perform.{shownBy}
-use Rattle.calls.specs.Line.{Lent, lent, lineSaid, linePicture, lineList, lineReply, filesAfter}
+use Rattle.linecall.specs.Line.{Lent, lent, lineSaid, linePicture, lineList, lineReply, filesAfter}
 use Rattle.statebytes.specs.State.{bytesOf, panelOf, isState, onState}
 use Rattle.statebytes.proofs.Theorems.{panel-read-back}
 use Rattle.registerbytes.specs.Register.{registerSize, recordsLent, registerOf}

@@ -37,7 +37,7 @@ use Rattle.listen.specs.Reply.{answerTo, errorType, refusedLength, refusedReply
 use Rattle.listen.specs.Listen.{answerIn, heardOf, heardReply}
 use Rattle.perform.specs.Commands.{carried}
 use Rattle.perform.specs.Perform.{shownBy, replyLength, replyWritten}
-use Rattle.calls.specs.Line.{Lent, lent, lineHeard, lineDone, bodyAfter, altered, lineSaid, lineList, lineReply, filesAfter}
+use Rattle.linecall.specs.Line.{Lent, lent, lineHeard, lineDone, bodyAfter, altered, lineSaid, lineList, lineReply, filesAfter}
 use Rattle.theorems.specs.Other.{Other, Answers}
 use Rattle.theorems.specs.Run.{World, withPanel, filesOf}
 use Rattle.theorems.specs.Story.{Entry, packet, other, replied, listed, noted, LineHears, Others, none, one, Story, last, line, call, callPlaces}

@@ -5,7 +5,7 @@ use mathlib.Core.Path.{_≡_}
 use mathlib.Core.List.{List, [], _∷_}
 use lib.ListN.{length}
 use Rattle.lists.specs.Tests.{when_then_else_, _=?_}
-use Rattle.calls.specs.Line.{lent}
+use Rattle.linecall.specs.Line.{lent}
 use Rattle.statebytes.specs.State.{bytesOf, PanelFits}
 use Rattle.linebytes.specs.Line.{recordsIn, LineBytes}
 use Rattle.theorems.specs.Other.{Other, AnswersBytes}

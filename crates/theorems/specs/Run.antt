@@ -12,7 +12,7 @@ use Rattle.picture.specs.Draw.{drawn}
 use Rattle.perform.specs.Perform.{shownBy}
 use Rattle.answers.specs.declared.Said.{Said}
 use Rattle.answers.specs.Answer.{filingOf}
-use Rattle.calls.specs.Line.{lent, LineCall}
+use Rattle.linecall.specs.Line.{lent, LineCall}
 use Rattle.theorems.specs.Other.{Other, Answers}
 
 pub data Call : Type 0 where

@@ -6,7 +6,7 @@ use lib.ListN.{take, replicate}
 use Rattle.packets.specs.Hold.{held}
 use Rattle.panel.specs.declared.state.Panel.{Panel}
 use Rattle.answers.specs.Answer.{numbersOf}
-use Rattle.calls.specs.Line.{lent, lineSaid, lineList, lineReply}
+use Rattle.linecall.specs.Line.{lent, lineSaid, lineList, lineReply}
 
 -- f a, f (a + 1), .. : n of them
 abbrev counted : ℕ → ℕ → (ℕ → ℕ) → List ℕ

@@ -1,7 +1,7 @@
 use Prim.Native.Nat.{ℕ}
 use mathlib.Core.Path.{sym, _∙_}
 use lib.ListN.{length}
-use Rattle.calls.specs.Line.{lent}
+use Rattle.linecall.specs.Line.{lent}
 use Rattle.statebytes.proofs.Theorems.{line-sized}
 use Rattle.linebytes.specs.Line.{recordsIn}
 use Rattle.linebytes.proofs.Together.{refused-line, turned-down-line, carried-out-line}

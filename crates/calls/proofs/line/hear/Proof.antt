@@ -1,6 +1,7 @@
 use mathlib.Core.Path.{sym, _∙_}
-use Rattle.calls.specs.Line.{lent}
-use Rattle.calls.proofs.Ways.{hears-performed, hears-left}
+use Rattle.linecall.specs.Line.{lent}
+use Rattle.linecall.proofs.Ways.{says-performed, says-left}
+use Rattle.calls.proofs.LineCalls.{spoken-so}
 use borrow.Author.Needs.{needs}
 use Rattle.calls.proofs.line.hear.Statement.{statement}
 use Rattle.calls.proofs.line.hear.Tie as tie
@@ -11,16 +12,18 @@ same-length-3 c = c .before .before .reply2 .given ∙ c .before .before .before
 returns : tie.Need-returns
 returns c =
     let a = c .before .before .before .before .before .before .before .before .before .before .before .before .before .before .before .before .before .before .before .before .before .before .before .before .args in
+    let l = lent (a .piece .now) (a .picture .now) (a .font .now) (a .list .now) (a .reply .now) (a .records) in
     let heard = rw (c .before .before .before .before .before .before .before .before .before .before .before .before .before .before .before .before .before .before .in-ranges .ensures) at (c .before .before .before .before .before .before .before .before .before .before .before .before .before .before .before .before .listen .ensures) in
-    hears-performed (a .p) (lent (a .piece .now) (a .picture .now) (a .font .now) (a .list .now) (a .reply .now) (a .records)) (heard .0) (heard .1)
-    (c .before .before .before .before .before .before .before .before .before .before .before .before .before .to-file .ensures) (sym (c .before .before .before .before .before .before .before .before .before .before .before .before .is-done .ensures) ∙ c .before .before .before .before .before .before .before .before .before .before .before .if1 .taken) (c .before .before .before .before .before .before .before .perform .ensures) (c .performed .ensures)
+    let done = sym (c .before .before .before .before .before .before .before .before .before .before .before .before .is-done .ensures) ∙ c .before .before .before .before .before .before .before .before .before .before .before .if1 .taken in
+    spoken-so (a .p) l (c .before .before .before .before .before .before .before .before .before .before .before .before .before .to-file .ensures) (c .performed .ensures) (says-performed (a .p) l (heard .0) (heard .1) done (c .before .before .before .before .before .before .before .perform .ensures))
 
 returns-2 : tie.Need-returns-2
 returns-2 c =
     let a = c .before .before .before .before .before .before .before .before .before .before .before .before .before .before .before .args in
+    let l = lent (a .piece .now) (a .picture .now) (a .font .now) (a .list .now) (a .reply .now) (a .records) in
     let heard = rw (c .before .before .before .before .before .before .before .before .before .in-ranges .ensures) at (c .before .before .before .before .before .before .before .listen .ensures) in
-    hears-left (a .p) (lent (a .piece .now) (a .picture .now) (a .font .now) (a .list .now) (a .reply .now) (a .records)) (heard .0) (heard .1)
-    (c .before .before .before .before .to-file .ensures) (sym (c .before .before .before .is-done .ensures) ∙ c .before .before .if1 .left) (c .performed2 .ensures)
+    let left = sym (c .before .before .before .is-done .ensures) ∙ c .before .before .if1 .left in
+    spoken-so (a .p) l (c .before .before .before .before .to-file .ensures) (c .performed2 .ensures) (says-left (a .p) l (heard .0) (heard .1) left)
 
 pub hear-spec : {M : Type 1} → statement M
 hear-spec =

@@ -52,7 +52,8 @@ use Rattle.register.specs.Run.{FilesIn}
 use Rattle.answers.specs.declared.Said.{Said}
 use Rattle.calls.specs.declared.line.Spoken.{Spoken}
 use Rattle.answers.specs.Answer.{withUnfiled}
-use Rattle.calls.specs.Line.{Lent, lent, HearsAll, LineCall}
+use Rattle.linecall.specs.Line.{Lent, lent, LineCall}
+use Rattle.calls.specs.Line.{HearsAll}
 use Rattle.register.proofs.Parts.{Leads, copied-part}
 use Rattle.register.proofs.Walks.{in-order, span, frees-all, copied, sets, asks-plain, asks-lent, hears, learns, meets}
 use Rattle.calls.proofs.LineCalls.{put-together}
