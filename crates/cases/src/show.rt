@@ -12,8 +12,7 @@ use crate::words::POWER;
 use crate::words::STATE;
 use filing::RECORDS;
 use filing::Record;
-use saidbytes::told::CallTold;
-use saidbytes::told::told;
+use saidreads::told;
 use statebytes::places::COLUMN;
 use statebytes::places::COUNT;
 use statebytes::places::DOWN;
@@ -21,6 +20,7 @@ use statebytes::places::FELL;
 use statebytes::places::LAST;
 use statebytes::places::LIVE;
 use statebytes::places::ROSE;
+use tally::CallTold;
 
 // A line for a line call, unless it waits: its answer, the reply and the cells listed. What it says.
 pub fn line(b: Buffers) -> CallTold {

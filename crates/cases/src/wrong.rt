@@ -3,7 +3,7 @@ ghost use Prim.Native.Nat.{_≤_};
 use crate::buffers::Buffers;
 use crate::text::decimal;
 use registerbytes::RECORD;
-use saidbytes::told::told;
+use saidreads::told;
 use statebytes::places::BOOT;
 use statebytes::places::CONTRAST;
 use statebytes::places::COUNT;

@@ -1,12 +1,11 @@
 -- For each public function, any two results that its promise allows are equal.
 use mathlib.Core.Bool.{Bool}
-use mathlib.Core.List.{List}
 use Prim.Native.Nat.{ℕ}
 use Rattle.lists.specs.Promise.{Determined}
 use Rattle.lists.proofs.Theorems.{one}
-use Rattle.saidbytes.specs.declared.told.CallTold.{CallTold}
+use Rattle.tally.specs.declared.CallTold.{CallTold}
 use Rattle.kept.specs.declared.Session.{Session}
-use Rattle.kept.specs.Session.{StartsSession, Goes, Loses, Holds, PieceCame, CallMade}
+use Rattle.kept.specs.Session.{StartsSession, Goes, Loses, PieceCame, CallMade}
 
 pub started-determined : Determined StartsSession
 started-determined = one _
@@ -16,9 +15,6 @@ going-determined steps over = one _
 
 pub lost-determined : (s : Session) → Determined (Loses s)
 lost-determined s = one _
-
-pub held-determined : (state : List ℕ) → Determined (Holds state)
-held-determined state = one _
 
 pub with-piece-determined : (s : Session) (count : ℕ) (failed : Bool) → Determined (PieceCame s count failed)
 with-piece-determined s count failed = one _

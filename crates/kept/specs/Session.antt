@@ -2,10 +2,8 @@
 use Prim.Native.Nat.{ℕ}
 use mathlib.Core.Path.{_≡_}
 use mathlib.Core.Bool.{Bool, true, false, _&&_, not}
-use mathlib.Core.List.{List}
 use Rattle.lists.specs.Tests.{_<?_, _≤?_, _=?_}
-use Rattle.statebytes.specs.State.{panelOf}
-use Rattle.saidbytes.specs.declared.told.CallTold.{CallTold}
+use Rattle.tally.specs.declared.CallTold.{CallTold}
 use Rattle.tally.specs.Sums.{largest, sumOf, sumsWith}
 use Rattle.kept.specs.declared.Session.{Session}
 
@@ -21,10 +19,6 @@ start =
       call = record { number = 1; command = 0; reason = 0; place = 0; taken = 0; dropped = 0; checked = 0; reply = 0; listed = 0 };
       sums = record { events = 0; offset = 0; taken = 0; dropped = 0; checked = 0 };
     }
-
--- how many bytes of the line the state holds
-abbrev pub heldIn : List ℕ → ℕ
-heldIn state = panelOf state .line .hold .count
 
 -- with a piece of so many bytes; with none the input is over
 abbrev pub withPiece : Session → ℕ → Bool → Session
@@ -48,7 +42,7 @@ withCall s at held c =
 abbrev pub goesOn : ℕ → Bool → Bool
 goesOn steps over = (steps <? largest) && not over
 
--- what `started`, `going`, `lost`, `held`, `with_piece` and `with_call` promise
+-- what `started`, `going`, `lost`, `with_piece` and `with_call` promise
 abbrev pub StartsSession : Session → Type 0
 StartsSession r = r ≡ start
 
@@ -58,9 +52,6 @@ Goes steps over r = r ≡ goesOn steps over
 abbrev pub Loses : Session → Session → Type 0
 Loses s r =
     r ≡ record { at = s .at; end = s .end; over = true; failed = s .failed; lost = true; call = s .call; sums = s .sums }
-
-abbrev pub Holds : List ℕ → ℕ → Type 0
-Holds state r = r ≡ heldIn state
 
 abbrev pub PieceCame : Session → ℕ → Bool → Session → Type 0
 PieceCame s count failed r = r ≡ withPiece s count failed

@@ -1,6 +1,6 @@
 // What a program keeps from call to call besides the bytes that it lends.
-ghost use Rattle.kept.specs.Session.{StartsSession, Goes, Loses, Holds, PieceCame, CallMade};
-use saidbytes::told::CallTold;
+ghost use Rattle.kept.specs.Session.{StartsSession, Goes, Loses, PieceCame, CallMade};
+use tally::CallTold;
 use tally::REFUSED;
 use tally::Sums;
 use tally::WAITING;
@@ -67,13 +67,6 @@ pub fn lost(s: Session) -> Session
         lost: true,
         ..s
     }
-}
-
-// How many bytes of the line the state holds.
-pub fn held(state: &[u8]) -> u64
-    ensures { λ r. ⌜ Holds (now (state .entry)) r ⌝ }
-{
-    lists::at(state, statebytes::places::COUNT) as u64
 }
 
 // A piece of so many bytes to call on; none is the end of the input, or a failed read.

@@ -10,6 +10,7 @@ use session::sizes::PICTURE;
 use session::sizes::REPLY;
 use session::sizes::SAID;
 use session::sizes::STATE;
+use statebytes::places::COUNT;
 use tally::found;
 
 // Writes the front of a buffer; whether all of it was written. A failed write is told on standard error.
@@ -64,7 +65,8 @@ fn finish(s: Session, state: &[u8]) {
         return;
     }
     let mut out = [0u8; 200];
-    let n = lines::end(&mut out, s.sums, state);
+    let held = lists::at(state, COUNT) as u64;
+    let n = lines::end(&mut out, s.sums, held);
     put(&out, n);
 }
 

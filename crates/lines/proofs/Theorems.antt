@@ -10,5 +10,5 @@ use Rattle.lines.specs.Lines.{Events, Ends}
 pub event-determined : (out : List ℕ) (s : Session) → Determined (λ (x : ℕ × List ℕ). Events out s (x .0) (x .1))
 event-determined out s x y p q = let e = p ∙ sym q in λ i. (e i .size, e i .buffer)
 
-pub end-determined : (out : List ℕ) (s : Sums) (state : List ℕ) → Determined (λ (x : ℕ × List ℕ). Ends out s state (x .0) (x .1))
-end-determined out s state x y p q = let e = p ∙ sym q in λ i. (e i .size, e i .buffer)
+pub end-determined : (out : List ℕ) (s : Sums) (held : ℕ) → Determined (λ (x : ℕ × List ℕ). Ends out s held (x .0) (x .1))
+end-determined out s held x y p q = let e = p ∙ sym q in λ i. (e i .size, e i .buffer)

@@ -4,10 +4,9 @@ use mathlib.Core.Path.{_≡_}
 use mathlib.Core.List.{List, [], _∷_}
 use Rattle.lists.specs.Tests.{when_then_else_, _=?_}
 use Rattle.wording.specs.Text.{Text, text, _then_, decimal}
-use Rattle.saidbytes.specs.declared.told.CallTold.{CallTold}
+use Rattle.tally.specs.declared.CallTold.{CallTold}
 use Rattle.tally.specs.declared.Sums.{Sums}
 use Rattle.kept.specs.declared.Session.{Session}
-use Rattle.kept.specs.Session.{heldIn}
 
 -- " " and the end of a line
 abbrev pub space : List ℕ
@@ -58,15 +57,15 @@ heldWord = 32 ∷ 104 ∷ 101 ∷ 108 ∷ 100 ∷ 32 ∷ []
 abbrev pub checkedWord : List ℕ
 checkedWord = 32 ∷ 99 ∷ 104 ∷ 101 ∷ 99 ∷ 107 ∷ 101 ∷ 100 ∷ 32 ∷ []
 
-abbrev pub endText : List ℕ → Sums → List ℕ → Text
-endText out s state =
+abbrev pub endText : List ℕ → Sums → ℕ → Text
+endText out s held =
     text out 0
-    then endWord then decimal (s .taken) then skippedWord then decimal (s .dropped) then heldWord then decimal (heldIn state)
+    then endWord then decimal (s .taken) then skippedWord then decimal (s .dropped) then heldWord then decimal held
     then checkedWord then decimal (s .checked) then newline
 
 -- what `event` and `end` promise of the buffer and the length
 abbrev pub Events : List ℕ → Session → ℕ → List ℕ → Type 0
 Events out s r out′ = text out′ r ≡ eventText out s
 
-abbrev pub Ends : List ℕ → Sums → List ℕ → ℕ → List ℕ → Type 0
-Ends out s state r out′ = text out′ r ≡ endText out s state
+abbrev pub Ends : List ℕ → Sums → ℕ → ℕ → List ℕ → Type 0
+Ends out s held r out′ = text out′ r ≡ endText out s held

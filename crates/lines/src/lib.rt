@@ -3,7 +3,7 @@ ghost use mathlib.Core.Path.{_≡_};
 ghost use Rattle.wording.specs.Text.{text, _then_};
 ghost use Rattle.lines.specs.Lines.{kindWord, numbersBehind, Events, Ends};
 use kept::Session;
-use saidbytes::told::CallTold;
+use tally::CallTold;
 use tally::Sums;
 use wording::labelled;
 use wording::number;
@@ -42,11 +42,10 @@ pub fn event(out: &mut [u8], s: Session) -> usize
     numbers(out, n, s.call)
 }
 
-// The last line, and its length.
-pub fn end(out: &mut [u8], s: Sums, state: &[u8]) -> usize
-    ensures { λ r. ⌜ Ends (now (out .entry)) s (now (state .entry)) r (now (out .exit)) ⌝ }
+// The last line, with so many bytes still held, and its length.
+pub fn end(out: &mut [u8], s: Sums, held: u64) -> usize
+    ensures { λ r. ⌜ Ends (now (out .entry)) s held r (now (out .exit)) ⌝ }
 {
-    let held = kept::held(state);
     let mut n = labelled(out, 0, b"end ", s.taken);
     n = labelled(out, n, b" skipped ", s.dropped);
     n = labelled(out, n, b" held ", held);

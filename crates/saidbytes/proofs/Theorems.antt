@@ -1,6 +1,6 @@
 -- What holds of the 16 bytes over and above the functions' own promises.
 use Prim.Native.Nat.{ℕ}
-use mathlib.Core.Path.{_≡_, refl, ap}
+use mathlib.Core.Path.{_≡_, refl}
 use mathlib.Core.List.{List, [], _∷_}
 use lib.ListN.{length}
 use Rattle.lists.specs.Promise.{Determined}
@@ -11,7 +11,6 @@ use Rattle.framing.specs.declared.scan.Counts.{Counts}
 use Rattle.answers.specs.declared.Check.{Check}
 use Rattle.answers.specs.declared.Numbers.{Numbers}
 use Rattle.saidbytes.specs.Says.{numbersShape, countsShape, saidShape, saidParts, saidBytes, SaidFits, Says, SaysRefused}
-use Rattle.saidbytes.specs.Told.{callFrom, callOf, ReadsSaid}
 
 -- The places, computed: the numbers of the table in include/naupelys.h.
 pub said-size : size saidShape ≡ 16
@@ -37,17 +36,9 @@ module _ (n : Numbers) (c : Counts) (reply listed : ℕ) where
   said-read-back fits =
       read-back saidShape (saidParts n c reply listed) ((tt, (tt, (tt, tt))), ((fits .taken, (fits .dropped, fits .checked)), (fits .reply, (fits .listed, refl))))
 
-  -- What a call says is what a program reads, where its counts fit their bytes.
-  pub told-what-is-said : SaidFits c reply listed → callOf (saidBytes n c reply listed) ≡ callFrom (saidParts n c reply listed)
-  unfolding callOf
-  told-what-is-said fits = ap callFrom (said-read-back fits)
-
 -- For each public function, any two results that its promise allows are equal, the lent bytes included.
 pub says-write-determined : (n : Numbers) (c : Counts) (reply listed : ℕ) → Determined (Says n c reply listed)
 says-write-determined n c reply listed = one _
 
 pub says-refused-determined : (check : Check) → Determined (λ (x : ℕ × List ℕ). SaysRefused check (x .0) (x .1))
 says-refused-determined check = and (one _) (one _)
-
-pub told-determined : (said : List ℕ) → Determined (ReadsSaid said)
-told-determined said = one _

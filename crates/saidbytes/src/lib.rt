@@ -1,11 +1,9 @@
-// What a call says, as 16 bytes, written and read.
+// What a call says, written as 16 bytes.
 ghost use Rattle.saidbytes.specs.Says.{Says, SaysRefused};
 use answers::Answer;
 use answers::Check;
 use answers::Numbers;
 use framing::scan::Counts;
-
-pub mod told;
 
 // How many bytes it takes.
 pub const SAID: usize = 16;

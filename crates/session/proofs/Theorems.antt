@@ -4,10 +4,10 @@ use mathlib.Core.List.{List}
 use Prim.Native.Nat.{ℕ}
 use Rattle.lists.specs.Promise.{Determined}
 use Rattle.linebytes.proofs.Theorems.{line-determined}
-use Rattle.saidbytes.specs.Told.{callOf}
+use Rattle.saidreads.specs.Told.{callOf}
 use Rattle.kept.specs.declared.Session.{Session}
-use Rattle.kept.specs.Session.{heldIn, withCall}
-use Rattle.session.specs.Calls.{startIn, CallsOn}
+use Rattle.kept.specs.Session.{withCall}
+use Rattle.session.specs.Calls.{startIn, heldIn, CallsOn}
 
 -- The session, the state, every buffer and what it says.
 pub call-determined : (s : Session) (piece font b p l r f : List ℕ)

@@ -5,9 +5,10 @@ use mathlib.Core.List.{List}
 use lib.ListN.{length, take, drop}
 use Rattle.linecall.specs.Line.{lent}
 use Rattle.linebytes.specs.Line.{recordsIn, LineBytes}
-use Rattle.saidbytes.specs.Told.{callOf}
+use Rattle.statebytes.specs.State.{panelOf}
+use Rattle.saidreads.specs.Told.{callOf}
 use Rattle.kept.specs.declared.Session.{Session}
-use Rattle.kept.specs.Session.{heldIn, withCall}
+use Rattle.kept.specs.Session.{withCall}
 
 -- where the piece ends, and where what is left of it begins
 abbrev pub endIn : Session → List ℕ → ℕ
@@ -18,6 +19,10 @@ startIn s piece = min (s .at) (endIn s piece)
 
 abbrev pub leftOf : Session → List ℕ → List ℕ
 leftOf s piece = take (endIn s piece - startIn s piece) (drop (startIn s piece) piece)
+
+-- how many bytes of the line the state holds
+abbrev pub heldIn : List ℕ → ℕ
+heldIn state = panelOf state .line .hold .count
 
 -- what `call` promises: the line call over bytes on what is left, and the session after what it says
 pub record CallsOn (s : Session) (piece font b p l r f : List ℕ) (s′ : Session) (b′ p′ l′ r′ f′ said′ : List ℕ) : Type 0 where

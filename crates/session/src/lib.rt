@@ -1,11 +1,12 @@
 // What the programs share: the calls on standard input's bytes until each piece waits for more, and what is told of them.
-ghost use Rattle.session.specs.Calls.{CallsOn};
+ghost use mathlib.Core.Path.{_≡_};
+ghost use Rattle.session.specs.Calls.{heldIn, CallsOn};
 use kept::Session;
-use kept::held;
 use kept::with_call;
 use kept::with_piece;
 use libc::STDIN_FILENO;
-use saidbytes::told::told;
+use saidreads::told;
+use statebytes::places::COUNT;
 use tally::WAITING;
 
 pub mod sizes;
@@ -18,6 +19,13 @@ fn supplied(s: Session, piece: &mut [u8]) -> Session {
     }
     let got = libc::read(STDIN_FILENO, piece);
     with_piece(s, io::count(got, piece), got < 0)
+}
+
+// How many bytes of the line the state holds.
+fn held(state: &[u8]) -> u64
+    ensures { λ r. ⌜ r ≡ heldIn (now (state .entry)) ⌝ }
+{
+    lists::at(state, COUNT) as u64
 }
 
 // The call on what is left of the piece.

@@ -2,7 +2,7 @@
 use Prim.Native.Nat.{ℕ}
 use Rattle.lists.specs.Promise.{Determined}
 use Rattle.lists.proofs.Theorems.{one}
-use Rattle.saidbytes.specs.declared.told.CallTold.{CallTold}
+use Rattle.tally.specs.declared.CallTold.{CallTold}
 use Rattle.tally.specs.declared.Sums.{Sums}
 use Rattle.tally.specs.Sums.{Sum, Finds, SumsCall}
 

@@ -3,7 +3,7 @@ use Prim.Native.Nat.{ℕ, _+_, _-_, min}
 use mathlib.Core.Path.{_≡_}
 use mathlib.Core.Bool.{Bool, _&&_}
 use Rattle.lists.specs.Tests.{when_then_else_, _<?_}
-use Rattle.saidbytes.specs.declared.told.CallTold.{CallTold}
+use Rattle.tally.specs.declared.CallTold.{CallTold}
 use Rattle.tally.specs.declared.Sums.{Sums}
 
 -- the largest number of 64 bits

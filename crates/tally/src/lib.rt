@@ -2,12 +2,24 @@
 ghost use mathlib.Core.Path.{_≡_};
 ghost use Prim.Native.Nat.{_-_};
 ghost use Rattle.tally.specs.Sums.{packetsBy, offsetOf, Sum, Finds, SumsCall};
-use saidbytes::told::CallTold;
 
 // The number of the answer waiting, and the first that refuses a call.
 pub const WAITING: u8 = 1;
 
 pub const REFUSED: u8 = 10;
+
+// What a call says: the numbers of its answer, its counts, its reply's length and how many cells it lists.
+pub struct CallTold {
+    pub number: u8,
+    pub command: u8,
+    pub reason: u8,
+    pub place: u8,
+    pub taken: u64,
+    pub dropped: u64,
+    pub checked: u64,
+    pub reply: usize,
+    pub listed: usize,
+}
 
 // How many packets were found; where the last one began, from the first byte of the input; the bytes taken, dropped and run
 // through the checksum.

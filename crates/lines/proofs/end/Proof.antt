@@ -9,13 +9,12 @@ returns c =
     let third = fourth .before .before .before .before .before in
     let second = third .before .before .before .before .before in
     let first = second .before .before .before .before .before in
-    rw (← first .before .before .before .held .ensures, ← first .labelled .ensures, ← second .labelled2 .ensures, ← third .labelled3 .ensures, ← fourth .labelled4 .ensures, ← fifth .word .ensures)
+    rw (← first .labelled .ensures, ← second .labelled2 .ensures, ← third .labelled3 .ensures, ← fourth .labelled4 .ensures, ← fifth .word .ensures)
 
 pub end-spec : {M : Type 1} → statement M
 end-spec =
     tie.close
     (tie.spec
-    (λ c κs. search needs)
     (λ c. search needs)
     (λ c κs. search needs)
     (λ c. search needs)

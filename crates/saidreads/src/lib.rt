@@ -1,20 +1,8 @@
-// What a call says in its 16 bytes.
+// What a call says, read from its 16 bytes.
 ghost use mathlib.Core.Path.{_≡_};
 ghost use Rattle.shapes.specs.Words.{halfOf};
-ghost use Rattle.saidbytes.specs.Told.{ReadsSaid};
-
-// The answer's numbers, the counts, the reply's length and how many cells are listed.
-pub struct CallTold {
-    pub number: u8,
-    pub command: u8,
-    pub reason: u8,
-    pub place: u8,
-    pub taken: u64,
-    pub dropped: u64,
-    pub checked: u64,
-    pub reply: usize,
-    pub listed: usize,
-}
+ghost use Rattle.saidreads.specs.Told.{ReadsSaid};
+use tally::CallTold;
 
 fn half_of(a: u8, b: u8) -> u64
     ensures { λ r. ⌜ r ≡ halfOf a b ⌝ }

@@ -1,7 +1,7 @@
 use borrow.Author.Needs.{needs}
-use Rattle.saidbytes.proofs.Laws.{said-is}
-use Rattle.saidbytes.proofs.told.told.Statement.{statement}
-use Rattle.saidbytes.proofs.told.told.Tie as tie
+use Rattle.saidreads.proofs.Laws.{said-is}
+use Rattle.saidreads.proofs.told.Statement.{statement}
+use Rattle.saidreads.proofs.told.Tie as tie
 
 returns : tie.Need-returns
 returns c =

@@ -1,8 +1,8 @@
 use borrow.Author.Needs.{needs}
 use Rattle.shapes.specs.Shape.{value}
 use Rattle.statebytes.specs.State.{panelOf}
-use Rattle.kept.proofs.held.Statement.{statement}
-use Rattle.kept.proofs.held.Tie as tie
+use Rattle.session.proofs.held.Statement.{statement}
+use Rattle.session.proofs.held.Tie as tie
 
 returns : tie.Need-returns
 unfolding panelOf value

@@ -3,8 +3,8 @@ use Prim.Native.Nat.{ℕ}
 use mathlib.Core.Path.{_≡_}
 use mathlib.Core.List.{List}
 use Rattle.shapes.specs.Shape.{_&_, Value, value}
 use Rattle.saidbytes.specs.Says.{saidShape}
-use Rattle.saidbytes.specs.declared.told.CallTold.{CallTold}
+use Rattle.tally.specs.declared.CallTold.{CallTold}
 
 abbrev pub callFrom : Value saidShape → CallTold
 callFrom ((number & command & reason & place) & (taken & dropped & checked) & reply & listed & spare) =

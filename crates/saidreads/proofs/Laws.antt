@@ -5,7 +5,7 @@ use Prim.Native.Nat.{ℕ}
 use lib.ListN.{getD}
 use Rattle.shapes.specs.Words.{halfOf, wordOf}
 use Rattle.shapes.specs.Shape.{value}
-use Rattle.saidbytes.specs.Told.{callOf}
+use Rattle.saidreads.specs.Told.{callOf}
 
 -- part by part
 module _ (b : List ℕ) (taken dropped checked reply listed : ℕ) where
