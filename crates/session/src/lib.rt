@@ -45,7 +45,7 @@ pub fn call(
     let before = held(state);
     let end = lists::at_most(s.end, piece.len());
     let at = lists::at_most(s.at, end);
-    naupelys::naupelys_line(
+    linebytes::line(
         state,
         &piece[at..end],
         picture,
