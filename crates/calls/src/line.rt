@@ -3,12 +3,15 @@ ghost use mathlib.Core.Path.{_≡_};
 ghost use lib.ListN.{length};
 ghost use Rattle.answers.specs.Answer.{withUnfiled};
 ghost use Rattle.linecall.specs.Line.{saidWith, lent, LineCall};
-ghost use Rattle.calls.specs.Line.{HearsAll};
+ghost use Rattle.calls.specs.Line.{spokenOf, Follows, HearsAll};
+use answers::Answer;
+use answers::Checked;
 use answers::Filing;
 use answers::Said;
 use filing::Record;
 use listen::Heard;
 use listen::Sizes;
+use panel::state::Body;
 use panel::state::Panel;
 use perform::Performed;
 use register::run::file;
@@ -20,8 +23,17 @@ struct Spoken {
     filing: Filing,
 }
 
-// A call whose command was carried out, or that left the body as it is.
-fn performed(h: Heard, d: Performed) -> Said
+// What a call says, with what of it is to be filed.
+fn with_filing(said: Said) -> Spoken
+    ensures { λ r. ⌜ r ≡ spokenOf said ⌝ }
+{
+    let answer = said.answer;
+    let filing = answers::to_file(answer);
+    Spoken { said, filing }
+}
+
+// What was heard, with what its command did.
+fn together(h: Heard, d: Performed) -> Said
     ensures { λ r. ⌜ r ≡ saidWith h d ⌝ }
 {
     let line = h.line;
@@ -38,6 +50,28 @@ fn performed(h: Heard, d: Performed) -> Said
     }
 }
 
+// The body's part of a call: a done command is performed, and else the body and the buffers stay as they are.
+fn follow(
+    body: Body,
+    h: Heard,
+    picture: &mut [u8],
+    font: &[u8],
+    list: &mut [u8],
+    reply: &mut [u8],
+) -> Performed
+    ensures { λ r. ⌜ Follows body h (now (picture .entry)) (now (font .entry)) (now (list .entry)) (now (reply .entry)) r (now (picture .exit)) (now (list .exit)) (now (reply .exit)) ⌝ }
+{
+    let answer = h.answer;
+    if answers::is_done(answer) {
+        return perform::perform(body, h.packet, picture, font, list, reply);
+    }
+    Performed {
+        body,
+        reply: h.reply,
+        listed: 0,
+    }
+}
+
 // All of the call but the filing.
 fn hear(
     p: Panel,
@@ -50,29 +84,25 @@ fn hear(
 ) -> Spoken
     ensures { λ r. ⌜ HearsAll p (lent (now (piece .entry)) (now (picture .entry)) (now (font .entry)) (now (list .entry)) (now (reply .entry)) records) r (now (picture .exit)) (now (list .exit)) (now (reply .exit)) ⌝ }
 {
+    let in_ranges = panel::ranges::in_ranges(p);
     let sizes = Sizes {
         picture: picture.len(),
         font: font.len(),
         list: list.len(),
         records,
     };
-    let in_ranges = panel::ranges::in_ranges(p);
-    let h = listen::listen(in_ranges, p.line, piece, sizes, reply);
-    let answer = h.answer;
-    let filing = answers::to_file(answer);
-    if answers::is_done(answer) {
-        let d = perform::perform(p.body, h.packet, picture, font, list, reply);
-        let said = performed(h, d);
-        return Spoken { said, filing };
+    match listen::checked(in_ranges, piece.len(), sizes, reply.len()) {
+        Checked::Fails(check) => with_filing(answers::nothing_taken(
+            p,
+            Answer::CallRefused(check),
+            0,
+        )),
+        Checked::Passes => {
+            let h = listen::hear(p.line, piece, reply);
+            let d = follow(p.body, h, picture, font, list, reply);
+            with_filing(together(h, d))
+        }
     }
-    let body = p.body;
-    let d = Performed {
-        body,
-        reply: h.reply,
-        listed: 0,
-    };
-    let said = performed(h, d);
-    Spoken { said, filing }
 }
 
 // The same with another unfiled number.

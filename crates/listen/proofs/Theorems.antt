@@ -10,16 +10,13 @@ use Rattle.answers.specs.Answer.{checkNumber}
 use Rattle.answers.proofs.Checks.{Rising}
 use Rattle.listen.specs.declared.Sizes.{Sizes}
 use Rattle.listen.specs.declared.Heard.{Heard}
-use Rattle.listen.specs.Listen.{lineTests, ChecksLine, HearsPiece, Listens}
+use Rattle.listen.specs.Listen.{lineTests, ChecksLine, HearsPiece}
 
 pub checked-determined : (inRange : Bool) (piece : ℕ) (sizes : Sizes) (reply : ℕ) → Determined (ChecksLine inRange piece sizes reply)
 checked-determined inRange piece sizes reply = one _
 
 pub hear-determined : (line : Line) (piece reply : List ℕ) → Determined (λ (x : Heard × List ℕ). HearsPiece line piece reply (x .0) (x .1))
 hear-determined line piece reply = and (one _) (one _)
-
-pub listen-determined : (inRange : Bool) (line : Line) (piece : List ℕ) (sizes : Sizes) (reply : List ℕ) → Determined (λ (x : Heard × List ℕ). Listens inRange line piece sizes reply (x .0) (x .1))
-listen-determined inRange line piece sizes reply = and (one _) (one _)
 
 -- "The lowest number that applies is given"
 pub line-tests-rise : (inRange : Bool) (piece : ℕ) (sizes : Sizes) (reply : ℕ) → Rising 9 (lineTests inRange piece sizes reply)

@@ -76,7 +76,3 @@ ChecksLine inRange piece sizes reply r = r ≡ checkedBy (lineTests inRange piec
 -- what `hear` promises of its result and of the reply buffer
 abbrev pub HearsPiece : Line → List ℕ → List ℕ → Heard → List ℕ → Type 0
 HearsPiece line piece reply r reply′ = (r ≡ heardOf line (scannedBy line piece) reply) × (reply′ ≡ heardReply (scannedBy line piece) reply)
-
--- what `listen` promises of its result and of the reply buffer
-abbrev pub Listens : Bool → Line → List ℕ → Sizes → List ℕ → Heard → List ℕ → Type 0
-Listens inRange line piece sizes reply r reply′ = (r ≡ listened inRange line piece sizes reply) × (reply′ ≡ listenedReply inRange line piece sizes reply)

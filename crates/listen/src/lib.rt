@@ -1,7 +1,7 @@
 // The line's part of a call: its checks, the scan, what a packet is answered, and the error reply. It knows no body.
 ghost use mathlib.Core.Path.{_≡_};
 ghost use Rattle.listen.specs.Reply.{AnswersTo, RepliesRefused};
-ghost use Rattle.listen.specs.Listen.{unheard, answerIn, ChecksLine, HearsPiece, Listens};
+ghost use Rattle.listen.specs.Listen.{answerIn, ChecksLine, HearsPiece};
 use answers::Answer;
 use answers::Check;
 use answers::Checked;
@@ -20,7 +20,7 @@ use verdict::verdict::Verdict;
 // The longest piece.
 pub const PIECE: usize = 4096;
 
-// The sizes of what is lent for the picture and the register; the piece and the reply buffer are lent here.
+// The sizes of what is lent for the picture and the register; the piece and the reply buffer are lent to `hear`.
 pub struct Sizes {
     pub picture: usize,
     pub font: usize,
@@ -76,29 +76,6 @@ pub fn checked(in_ranges: bool, piece: usize, sizes: Sizes, reply: usize) -> Che
     also(replies, sizes.records == RECORDS, Check::RegisterSize)
 }
 
-// A call that is refused by number hears nothing.
-fn refused(line: Line, check: Check) -> Heard
-    ensures { λ r. ⌜ r ≡ unheard line check ⌝ }
-{
-    let packet = Packet {
-        kind: 0,
-        length: 0,
-        content: [0u8; CONTENT],
-    };
-    let counts = Counts {
-        taken: 0,
-        dropped: 0,
-        checked: 0,
-    };
-    Heard {
-        line,
-        answer: Answer::CallRefused(check),
-        packet,
-        counts,
-        reply: 0,
-    }
-}
-
 // What a scan found: waiting, or the packet's answer.
 fn answer_in(found: bool, p: Packet) -> Answer
     ensures { λ r. ⌜ r ≡ answerIn found p ⌝ }
@@ -122,15 +99,5 @@ pub fn hear(line: Line, piece: &[u8], reply: &mut [u8]) -> Heard
         packet,
         counts,
         reply: written,
-    }
-}
-
-// A piece of the line, heard.
-pub fn listen(in_ranges: bool, line: Line, piece: &[u8], sizes: Sizes, reply: &mut [u8]) -> Heard
-    ensures { λ r. ⌜ Listens «in_ranges» line (now (piece .entry)) sizes (now (reply .entry)) r (now (reply .exit)) ⌝ }
-{
-    match checked(in_ranges, piece.len(), sizes, reply.len()) {
-        Checked::Fails(check) => refused(line, check),
-        Checked::Passes => hear(line, piece, reply),
     }
 }

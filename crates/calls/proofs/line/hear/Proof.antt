@@ -1,29 +1,31 @@
-use mathlib.Core.Path.{sym, _∙_}
+use mathlib.Core.Path.{sym, _∙_, ap}
 use Rattle.linecall.specs.Line.{lent}
-use Rattle.linecall.proofs.Ways.{says-performed, says-left}
-use Rattle.calls.proofs.LineCalls.{spoken-so}
+use Rattle.linecall.proofs.Ways.{says-refused, passed-heard}
+use Rattle.calls.specs.Line.{spokenOf}
+use Rattle.calls.proofs.LineCalls.{says-followed}
 use borrow.Author.Needs.{needs}
 use Rattle.calls.proofs.line.hear.Statement.{statement}
 use Rattle.calls.proofs.line.hear.Tie as tie
 
-same-length-3 : tie.Need-same-length-3
-same-length-3 c = c .before .before .reply2 .given ∙ c .before .before .before .before .before .before .before .before .before .before .before .before .before .before .before .reply .given
-
 returns : tie.Need-returns
 returns c =
-    let a = c .before .before .before .before .before .before .before .before .before .before .before .before .before .before .before .before .before .before .before .before .before .before .before .before .args in
+    let a = c .before .before .before .before .before .before .before .before .before .before .before .before .args in
     let l = lent (a .piece .now) (a .picture .now) (a .font .now) (a .list .now) (a .reply .now) (a .records) in
-    let heard = rw (c .before .before .before .before .before .before .before .before .before .before .before .before .before .before .before .before .before .before .in-ranges .ensures) at (c .before .before .before .before .before .before .before .before .before .before .before .before .before .before .before .before .listen .ensures) in
-    let done = sym (c .before .before .before .before .before .before .before .before .before .before .before .before .is-done .ensures) ∙ c .before .before .before .before .before .before .before .before .before .before .before .if1 .taken in
-    spoken-so (a .p) l (c .before .before .before .before .before .before .before .before .before .before .before .before .before .to-file .ensures) (c .performed .ensures) (says-performed (a .p) l (heard .0) (heard .1) done (c .before .before .before .before .before .before .before .perform .ensures))
+    let checks = rw (c .before .before .before .before .before .before .in-ranges .ensures) at (c .before .before .before .before .before .checked .ensures) in
+    let w = says-refused (a .p) l _ (sym checks ∙ c .before .before .before .check .given .1) in
+    (c .with-filing .ensures ∙ ap spokenOf (c .before .nothing-taken .ensures ∙ w .0), w .1, w .2, w .3)
+
+same-length-3 : tie.Need-same-length-3
+same-length-3 c = c .before .before .before .reply2 .given ∙ c .before .before .before .before .before .before .before .before .before .before .before .before .before .reply .given
 
 returns-2 : tie.Need-returns-2
 returns-2 c =
-    let a = c .before .before .before .before .before .before .before .before .before .before .before .before .before .before .before .args in
+    let a = c .before .before .before .before .before .before .before .before .before .before .before .before .before .before .before .before .before .before .before .before .before .before .before .before .before .args in
     let l = lent (a .piece .now) (a .picture .now) (a .font .now) (a .list .now) (a .reply .now) (a .records) in
-    let heard = rw (c .before .before .before .before .before .before .before .before .before .in-ranges .ensures) at (c .before .before .before .before .before .before .before .listen .ensures) in
-    let left = sym (c .before .before .before .is-done .ensures) ∙ c .before .before .if1 .left in
-    spoken-so (a .p) l (c .before .before .before .before .to-file .ensures) (c .performed2 .ensures) (says-left (a .p) l (heard .0) (heard .1) left)
+    let checks = rw (c .before .before .before .before .before .before .before .before .before .before .before .before .before .before .before .before .before .before .before .in-ranges .ensures) at (c .before .before .before .before .before .before .before .before .before .before .before .before .before .before .before .before .before .before .checked .ensures) in
+    let heard = passed-heard (a .p) l (sym checks ∙ c .before .before .before .before .before .before .before .before .before .before .before .before .before .before .before .before .enum-told .given .1) (c .before .before .before .before .before .before .before .before .before .before .before .before .before .before .hear .ensures) in
+    let w = says-followed (a .p) l (heard .0) (heard .1) (c .before .before .before .before .before .before .before .before .follow .ensures) in
+    (c .with-filing2 .ensures ∙ ap spokenOf (c .before .together .ensures ∙ w .0), w .1, w .2, w .3)
 
 pub hear-spec : {M : Type 1} → statement M
 hear-spec =
@@ -31,14 +33,16 @@ hear-spec =
     (tie.spec
     (λ c κs. search needs)
     (λ c κs. search needs)
+    (λ c. search needs)
+    (λ c κs. search needs)
+    (λ c κs. search needs)
+    (λ c. search needs)
     (λ c κs. search needs)
     (λ c κs. search needs)
     (λ c κs. search needs)
     (λ c κs. search needs)
+    returns
     (λ c. search needs)
     (λ c. search needs)
     same-length-3
-    returns
-    (λ c κs. search needs)
-    (λ c. search needs)
     returns-2)
