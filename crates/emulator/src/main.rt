@@ -5,7 +5,6 @@ mod glass;
 
 use kept::Session;
 use kept::going;
-use kept::lost;
 use libc::STDERR_FILENO;
 use libc::STDOUT_FILENO;
 use session::sizes::FAULTS;
@@ -42,7 +41,11 @@ fn told(s: Session, drawn: bool, picture: &[u8], list: &[u8], reply: &[u8]) -> S
     if sent {
         return s;
     }
-    lost(s)
+    Session {
+        over: true,
+        lost: true,
+        ..s
+    }
 }
 
 // The steps of a session, to its end.

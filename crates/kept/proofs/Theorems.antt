@@ -5,16 +5,13 @@ use Rattle.lists.specs.Promise.{Determined}
 use Rattle.lists.proofs.Theorems.{one}
 use Rattle.tally.specs.declared.CallTold.{CallTold}
 use Rattle.kept.specs.declared.Session.{Session}
-use Rattle.kept.specs.Session.{StartsSession, Goes, Loses, PieceCame, CallMade}
+use Rattle.kept.specs.Session.{StartsSession, Goes, PieceCame, CallMade}
 
 pub started-determined : Determined StartsSession
 started-determined = one _
 
 pub going-determined : (steps : ℕ) (over : Bool) → Determined (Goes steps over)
 going-determined steps over = one _
-
-pub lost-determined : (s : Session) → Determined (Loses s)
-lost-determined s = one _
 
 pub with-piece-determined : (s : Session) (count : ℕ) (failed : Bool) → Determined (PieceCame s count failed)
 with-piece-determined s count failed = one _

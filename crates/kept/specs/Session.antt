@@ -42,16 +42,12 @@ withCall s at held c =
 abbrev pub goesOn : ℕ → Bool → Bool
 goesOn steps over = (steps <? largest) && not over
 
--- what `started`, `going`, `lost`, `with_piece` and `with_call` promise
+-- what `started`, `going`, `with_piece` and `with_call` promise
 abbrev pub StartsSession : Session → Type 0
 StartsSession r = r ≡ start
 
 abbrev pub Goes : ℕ → Bool → Bool → Type 0
 Goes steps over r = r ≡ goesOn steps over
-
-abbrev pub Loses : Session → Session → Type 0
-Loses s r =
-    r ≡ record { at = s .at; end = s .end; over = true; failed = s .failed; lost = true; call = s .call; sums = s .sums }
 
 abbrev pub PieceCame : Session → ℕ → Bool → Session → Type 0
 PieceCame s count failed r = r ≡ withPiece s count failed

@@ -1,5 +1,5 @@
 // What a program keeps from call to call besides the bytes that it lends.
-ghost use Rattle.kept.specs.Session.{StartsSession, Goes, Loses, PieceCame, CallMade};
+ghost use Rattle.kept.specs.Session.{StartsSession, Goes, PieceCame, CallMade};
 use tally::CallTold;
 use tally::REFUSED;
 use tally::Sums;
@@ -58,17 +58,6 @@ pub fn going(steps: u64, over: bool) -> bool
     (steps < u64::MAX) & !over
 }
 
-// What is told of a call cannot be written: no more calls.
-pub fn lost(s: Session) -> Session
-    ensures { λ r. ⌜ Loses s r ⌝ }
-{
-    Session {
-        over: true,
-        lost: true,
-        ..s
-    }
-}
-
 // A piece of so many bytes to call on; none is the end of the input, or a failed read.
 pub fn with_piece(s: Session, count: usize, failed: bool) -> Session
     ensures { λ r. ⌜ PieceCame s count failed r ⌝ }
@@ -87,9 +76,9 @@ pub fn with_call(s: Session, at: usize, held: u64, call: CallTold) -> Session
     ensures { λ r. ⌜ CallMade s at held call r ⌝ }
 {
     let sums = tally::with_call(s.sums, held, call);
-    let taken = tally::sum(at as u64, call.taken) as usize;
+    let taken = lists::at_most(call.taken as usize, usize::MAX - at);
     Session {
-        at: taken,
+        at: at + taken,
         over: REFUSED <= call.number,
         call,
         sums,

@@ -1,7 +1,6 @@
 // The line program: host bytes on standard input, a line of text a packet on standard output.
 use kept::Session;
 use kept::going;
-use kept::lost;
 use libc::STDERR_FILENO;
 use libc::STDOUT_FILENO;
 use session::sizes::FAULTS;
@@ -11,7 +10,7 @@ use session::sizes::REPLY;
 use session::sizes::SAID;
 use session::sizes::STATE;
 use statebytes::places::COUNT;
-use tally::found;
+use tally::WAITING;
 
 // Writes the front of a buffer; whether all of it was written. A failed write is told on standard error.
 fn put(out: &[u8], length: usize) -> bool {
@@ -25,7 +24,7 @@ fn put(out: &[u8], length: usize) -> bool {
 
 // The line of the packet that the last call found; the session ends where it cannot be written.
 fn told(s: Session) -> Session {
-    if !found(s.call.number) {
+    if s.over | (s.call.number == WAITING) {
         return s;
     }
     let mut out = [0u8; 200];
@@ -33,7 +32,11 @@ fn told(s: Session) -> Session {
     if put(&out, n) {
         return s;
     }
-    lost(s)
+    Session {
+        over: true,
+        lost: true,
+        ..s
+    }
 }
 
 // The steps of a session, to its end.

@@ -35,12 +35,6 @@ sumsWith s held c =
       checked = sumOf (s .checked) (c .checked);
     }
 
--- what `sum`, `found` and `with_call` promise
-abbrev pub Sum : ℕ → ℕ → ℕ → Type 0
-Sum a b r = r ≡ sumOf a b
-
-abbrev pub Finds : ℕ → Bool → Type 0
-Finds number r = r ≡ isFound number
-
+-- what `with_call` promises
 abbrev pub SumsCall : Sums → ℕ → CallTold → Sums → Type 0
 SumsCall s held c r = r ≡ sumsWith s held c

@@ -1,7 +1,7 @@
 // What is added up from call to call, in sums that stop at the largest number.
 ghost use mathlib.Core.Path.{_≡_};
 ghost use Prim.Native.Nat.{_-_};
-ghost use Rattle.tally.specs.Sums.{packetsBy, offsetOf, Sum, Finds, SumsCall};
+ghost use Rattle.tally.specs.Sums.{sumOf, offsetOf, packetsBy, SumsCall};
 
 // The number of the answer waiting, and the first that refuses a call.
 pub const WAITING: u8 = 1;
@@ -32,8 +32,8 @@ pub struct Sums {
 }
 
 // The sum, or the largest number where it is above that.
-pub fn sum(a: u64, b: u64) -> u64
-    ensures { λ r. ⌜ Sum a b r ⌝ }
+fn sum(a: u64, b: u64) -> u64
+    ensures { λ r. ⌜ r ≡ sumOf a b ⌝ }
 {
     if a <= u64::MAX - b { a + b } else { u64::MAX }
 }
@@ -51,18 +51,15 @@ fn offset(taken: u64, held: u64, dropped: u64) -> u64
     sum(less(taken, held), dropped)
 }
 
-// Whether an answer of that number is a packet's.
-pub fn found(number: u8) -> bool
-    ensures { λ r. ⌜ Finds number r ⌝ }
-{
-    (WAITING < number) & (number < REFUSED)
-}
-
 // How many packets an answer of that number is of.
 fn packets(number: u8) -> u64
     ensures { λ r. ⌜ r ≡ packetsBy number ⌝ }
 {
-    if found(number) { 1 } else { 0 }
+    if (WAITING < number) & (number < REFUSED) {
+        1
+    } else {
+        0
+    }
 }
 
 // The sums with a call more, before which so many bytes were held.

@@ -1,4 +1,4 @@
-use mathlib.Core.Path.{sym, _∙_}
+use mathlib.Core.Path.{sym}
 use borrow.Author.Needs.{needs}
 use Rattle.lists.proofs.Laws.{when-true, when-false}
 use Rattle.tally.specs.Sums.{packetsBy}
@@ -7,11 +7,11 @@ use Rattle.tally.proofs.packets.Tie as tie
 
 returns : tie.Need-returns
 unfolding packetsBy
-returns c = sym (when-true _ _ _ (sym (c .before .found .ensures) ∙ c .if1 .taken))
+returns c = sym (when-true _ _ _ (c .if1 .taken))
 
 returns-2 : tie.Need-returns-2
 unfolding packetsBy
-returns-2 c = sym (when-false _ _ _ (sym (c .before .found .ensures) ∙ c .if1 .left))
+returns-2 c = sym (when-false _ _ _ (c .if1 .left))
 
 pub packets-spec : {M : Type 1} → statement M
-packets-spec = tie.close (tie.spec (λ c κs. search needs) returns returns-2)
+packets-spec = tie.close (tie.spec returns returns-2)
