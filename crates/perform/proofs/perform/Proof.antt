@@ -19,7 +19,7 @@ returns c =
       body = did;
       written = replying .reply-with .ensures .0 ∙ ap (λ (k : Packet). replyLength k out) made;
       replied = replying .reply-with .ensures .1 ∙ ap (λ (k : Packet). replyWritten k out) made;
-      repaints = rw did at (painting .repaint .ensures);
+      repaints = rw (← did) (painting .repaint .ensures);
     }
 
 pub perform-spec : {M : Type 1} → statement M
