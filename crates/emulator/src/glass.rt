@@ -1,7 +1,7 @@
 // The glass on standard error, dot by dot from the painted picture: a cell is three braille characters wide and two high,
 // inside a frame at the top left of the screen.
+ghost use Prim.Native.Nat.{_<_, _≤_};
 use libc::STDERR_FILENO;
-use wording::word;
 
 // Four lines of a cell, from the top: the upper half or the lower.
 struct Four {
@@ -63,8 +63,17 @@ fn ones(n: u8) -> u8 {
     b'0' + n % 10
 }
 
+// How long the text of half a cell is, and of a cell; and the text of up to 80 cells and of the cursor's parking place.
+const HALF: usize = 17;
+
+const CELL: usize = HALF + HALF;
+
+const PARKING: usize = 8;
+
+const SCREEN: usize = 80 * CELL + PARKING;
+
 // Half a cell: the cursor is moved to its place, and three characters follow.
-fn half_text(l: Four, row: u8, column: u8) -> [u8; 17] {
+fn half_text(l: Four, row: u8, column: u8) -> [u8; HALF] {
     let x = braille(l, 0);
     let y = braille(l, 1);
     let z = braille(l, 2);
@@ -89,36 +98,35 @@ fn half_text(l: Four, row: u8, column: u8) -> [u8; 17] {
     ]
 }
 
-// The text of up to 80 cells and of the cursor's parking place.
-const SCREEN: usize = 2728;
-
-// The frame is one character wide, so that cell 0 begins at the second row and column.
-fn with_cell(out: &mut [u8], length: usize, picture: &[u8], cell: u8) -> usize {
+// A cell's text behind that of `i` others. The frame is one character wide, so that cell 0 begins at the second row and column.
+fn with_cell(out: &mut [u8], i: usize, picture: &[u8], cell: u8)
+    requires { ⌜ i < 80 ⌝ }
+{
     let row = cell / 20 * 2 + 2;
     let column = cell % 20 * 3 + 2;
     let upper = half_text(four_of(picture, cell, 0), row, column);
     let lower = half_text(four_of(picture, cell, 1), row + 1, column);
-    let n = word(out, length, &upper);
-    word(out, n, &lower)
+    lists::paste(out, i * CELL, &upper);
+    lists::paste(out, i * CELL + HALF, &lower);
 }
 
-fn with_cells(out: &mut [u8], picture: &[u8], list: &[u8], listed: usize) -> usize {
-    let cells = lists::at_most(listed, 80);
-    let mut n: usize = 0;
+fn with_cells(out: &mut [u8], picture: &[u8], list: &[u8], cells: usize)
+    requires { ⌜ cells ≤ 80 ⌝ }
+{
     let mut i: usize = 0;
     while i < cells {
-        n = with_cell(out, n, picture, lists::at(list, i));
+        with_cell(out, i, picture, lists::at(list, i));
         i += 1;
     }
-    n
 }
 
 // The listed cells as the picture has them, written at once, and the cursor parked below the frame.
 pub fn draw(picture: &[u8], list: &[u8], listed: usize) {
+    let cells = lists::at_most(listed, 80);
     let mut out = [0u8; SCREEN];
-    let n = with_cells(&mut out, picture, list, listed);
-    let end = word(&mut out, n, b"\x1b[11;01H");
-    crate::put(STDERR_FILENO, &out, end);
+    with_cells(&mut out, picture, list, cells);
+    lists::paste(&mut out, cells * CELL, b"\x1b[11;01H");
+    crate::put(STDERR_FILENO, &out, cells * CELL + PARKING);
 }
 
 fn every_cell() -> [u8; 80] {

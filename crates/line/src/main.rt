@@ -28,7 +28,7 @@ fn told(s: Session) -> Session {
         return s;
     }
     let mut out = [0u8; 200];
-    let n = lines::event(&mut out, s);
+    let n = lines::event(&mut out, s.sums.events, s.sums.offset, s.call);
     if put(&out, n) {
         return s;
     }

@@ -1,16 +1,18 @@
--- The lines of text.
+-- The lines of text: each a form whose marks, "%", stand for numbers.
 use Prim.Native.Nat.{ℕ}
 use mathlib.Core.Path.{_≡_}
-use mathlib.Core.List.{List, [], _∷_}
+use mathlib.Core.List.{List, [], _∷_, _++_}
 use Rattle.lists.specs.Tests.{when_then_else_, _=?_}
-use Rattle.wording.specs.Text.{Text, text, _then_, decimal}
+use Rattle.wording.specs.Text.{FillsForm}
 use Rattle.tally.specs.declared.CallTold.{CallTold}
 use Rattle.tally.specs.declared.Sums.{Sums}
-use Rattle.kept.specs.declared.Session.{Session}
 
--- " " and the end of a line
-abbrev pub space : List ℕ
-space = 32 ∷ []
+-- "%", " %" and the end of a line
+abbrev pub mark : List ℕ
+mark = 37 ∷ []
+
+abbrev pub spaceMark : List ℕ
+spaceMark = 32 ∷ 37 ∷ []
 
 abbrev pub newline : List ℕ
 newline = 10 ∷ []
@@ -25,24 +27,19 @@ doneWord = 32 ∷ 100 ∷ 111 ∷ 110 ∷ 101 ∷ []
 abbrev pub refusedWord : List ℕ
 refusedWord = 32 ∷ 114 ∷ 101 ∷ 102 ∷ 117 ∷ 115 ∷ 101 ∷ 100 ∷ []
 
--- the word of an answer's number
+-- the word of a packet's answer: 2 is stray, 3 done, and 4 refused
 unfoldable pub kindWord : ℕ → List ℕ
 kindWord n =
     when n =? 2 then strayWord
     else when n =? 3 then doneWord
-    else when n =? 4 then refusedWord
-    else []
-
-abbrev pub numbersBehind : Text → CallTold → Text
-numbersBehind t c =
-    t
-    then space then decimal (c .command) then space then decimal (c .reason) then space then decimal (c .place)
-    then space then decimal (c .listed) then newline
+    else refusedWord
 
 -- "event offset kind command reason place cells"
-abbrev pub eventText : List ℕ → Session → Text
-eventText out s =
-    numbersBehind (text out 0 then decimal (s .sums .events) then space then decimal (s .sums .offset) then kindWord (s .call .number)) (s .call)
+abbrev pub eventForm : ℕ → List ℕ
+eventForm n = mark ++ spaceMark ++ kindWord n ++ spaceMark ++ spaceMark ++ spaceMark ++ spaceMark ++ newline
+
+abbrev pub eventNumbers : ℕ → ℕ → CallTold → List ℕ
+eventNumbers packet offset c = packet ∷ offset ∷ c .command ∷ c .reason ∷ c .place ∷ c .listed ∷ []
 
 -- "end ", " skipped ", " held ", " checked "
 abbrev pub endWord : List ℕ
@@ -57,15 +54,15 @@ heldWord = 32 ∷ 104 ∷ 101 ∷ 108 ∷ 100 ∷ 32 ∷ []
 abbrev pub checkedWord : List ℕ
 checkedWord = 32 ∷ 99 ∷ 104 ∷ 101 ∷ 99 ∷ 107 ∷ 101 ∷ 100 ∷ 32 ∷ []
 
-abbrev pub endText : List ℕ → Sums → ℕ → Text
-endText out s held =
-    text out 0
-    then endWord then decimal (s .taken) then skippedWord then decimal (s .dropped) then heldWord then decimal held
-    then checkedWord then decimal (s .checked) then newline
+abbrev pub endForm : List ℕ
+endForm = endWord ++ mark ++ skippedWord ++ mark ++ heldWord ++ mark ++ checkedWord ++ mark ++ newline
+
+abbrev pub endNumbers : Sums → ℕ → List ℕ
+endNumbers s held = s .taken ∷ s .dropped ∷ held ∷ s .checked ∷ []
 
 -- what `event` and `end` promise of the buffer and the length
-abbrev pub Events : List ℕ → Session → ℕ → List ℕ → Type 0
-Events out s r out′ = text out′ r ≡ eventText out s
+abbrev pub Events : List ℕ → ℕ → ℕ → CallTold → ℕ → List ℕ → Type 0
+Events out packet offset c r out′ = FillsForm out (eventForm (c .number)) (eventNumbers packet offset c) r out′
 
 abbrev pub Ends : List ℕ → Sums → ℕ → ℕ → List ℕ → Type 0
-Ends out s held r out′ = text out′ r ≡ endText out s held
+Ends out s held r out′ = FillsForm out endForm (endNumbers s held) r out′

@@ -1,9 +1,9 @@
--- Text put together in a lent buffer: runs of bytes one behind the other, numbers in decimal digits.
+-- Text put together in a lent buffer: runs of bytes one behind the other, numbers in decimal digits, forms for numbers.
 use Prim.Native.Nat.{ℕ, zero, suc, _+_, _/_, _%_}
 use mathlib.Core.Path.{_≡_}
 use mathlib.Core.List.{List, [], _∷_, _++_}
-use lib.ListN.{length}
-use Rattle.lists.specs.Tests.{when_then_else_, _<?_, _≤?_}
+use lib.ListN.{length, drop, getD}
+use Rattle.lists.specs.Tests.{when_then_else_, _<?_, _≤?_, _=?_}
 use Rattle.lists.specs.Runs.{pasted}
 
 -- a buffer, and how many bytes at its front are text
@@ -28,12 +28,13 @@ decimalIn (suc most) n = when n <? 10 then ((48 + n) ∷ []) else decimalIn most
 abbrev pub decimal : ℕ → List ℕ
 decimal n = decimalIn (suc n) n
 
--- what `word`, `number` and `labelled` promise
-abbrev pub Appends : List ℕ → ℕ → List ℕ → ℕ → List ℕ → Type 0
-Appends out size run r out′ = text out′ r ≡ (text out size then run)
+-- a form behind the text: each of its marks, "%", stands for the next number, every other byte for itself
+unfoldable pub formBehind : Text → List ℕ → List ℕ → Text
+formBehind t [] numbers = t
+formBehind t (c ∷ form) numbers =
+    when c =? 37 then formBehind (t then decimal (getD numbers 0 0)) form (drop 1 numbers)
+    else formBehind (t then (c ∷ [])) form numbers
 
-abbrev pub AppendsNumber : List ℕ → ℕ → ℕ → ℕ → List ℕ → Type 0
-AppendsNumber out size n r out′ = text out′ r ≡ (text out size then decimal n)
-
-abbrev pub AppendsLabelled : List ℕ → ℕ → List ℕ → ℕ → ℕ → List ℕ → Type 0
-AppendsLabelled out size label n r out′ = text out′ r ≡ (text out size then label then decimal n)
+-- what `filled` promises of the buffer and the length
+abbrev pub FillsForm : List ℕ → List ℕ → List ℕ → ℕ → List ℕ → Type 0
+FillsForm out form numbers r out′ = text out′ r ≡ formBehind (text out 0) form numbers

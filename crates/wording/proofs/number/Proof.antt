@@ -9,20 +9,20 @@ use Rattle.wording.proofs.number.Tie as tie
 
 returns : tie.Need-returns
 returns c =
-    let a = c .before .before .before .before .before .before .before .args in
-    c .before .before .word .ensures ∙ ap (λ (run : List ℕ). text (a .out .now) (a .length) then run) (one-digit (a .n) (c .before .before .before .before .before .if1 .taken))
+    let test = c .before .before .before .before in
+    let a = test .before .before .args in
+    c .before .before .byte .ensures ∙ ap (λ (run : List ℕ). text (a .out .now) (a .length) then run) (one-digit (a .n) (test .if1 .taken))
 
 returns-2 : tie.Need-returns-2
 returns-2 c =
     let a = c .before .before .before .before .before .before .before .before .before .args in
     let d = c .before .before .before .before .before .decimal in
-    c .before .before .word2 .ensures ∙ ap (λ (run : List ℕ). text (a .out .now) (a .length) then run) (d .ensures .1 .1 ∙ all-digits (d .result) (a .n) (d .ensures .1 .0))
+    c .before .before .word .ensures ∙ ap (λ (run : List ℕ). text (a .out .now) (a .length) then run) (d .ensures .1 .1 ∙ all-digits (d .result) (a .n) (d .ensures .1 .0))
 
 pub number-spec : {M : Type 1} → statement M
 number-spec =
     tie.close
     (tie.spec
-    (λ c. search needs)
     (λ c. search needs)
     (λ c. search needs)
     (λ c κs. search needs)

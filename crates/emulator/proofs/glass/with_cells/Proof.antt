@@ -6,10 +6,10 @@ use Rattle.emulator.proofs.glass.with_cells.Statement.{statement}
 use Rattle.emulator.proofs.glass.with_cells.Tie as tie
 
 abbrev Inv-loop : tie.InvT-loop
-Inv-loop out₀ picture list listed cells n₀ i₀ out n i = (i ≤ cells) × (length out ≡ length out₀)
+Inv-loop out₀ picture list cells i₀ out i = (i ≤ cells) × (length out ≡ length out₀)
 
 abbrev μ-loop : tie.MeasureT-loop
-μ-loop out₀ picture list listed cells n₀ i₀ out n i = cells - i
+μ-loop out₀ picture list cells i₀ out i = cells - i
 
 pub with-cells-spec : {M : Type 1} → statement M
 with-cells-spec =
@@ -17,7 +17,6 @@ with-cells-spec =
     (tie.spec
     Inv-loop
     μ-loop
-    (λ c κs. search needs)
     (λ c. search needs)
     (λ c κs. search needs)
     (λ c κs. search needs)
