@@ -1,6 +1,8 @@
 // Cases of the framing.
+ghost use Prim.Native.Nat.{_≤_};
+ghost use lib.ListN.{length};
 use crate::text::byte;
-use crate::text::filled;
+use crate::text::labelled;
 use crate::text::word;
 use crate::words::COMPOSE;
 use crate::words::CUTS;
@@ -10,34 +12,15 @@ use crate::words::SUM;
 use framing::scan::Scanned;
 use packets::hold::Hold;
 use packets::packet::Packet;
+use std::num::wrapping_add_usize;
 
-// What calls come to, besides their packets.
+// What calls come to, besides their packets; of the last one what it took and whether it found a packet.
 struct Sums {
     hold: Hold,
+    taken: usize,
+    found: bool,
     dropped: usize,
     checked: usize,
-}
-
-fn from(hold: Hold) -> Sums {
-    Sums {
-        hold,
-        dropped: 0,
-        checked: 0,
-    }
-}
-
-// Exact up to a million each, and no case comes near that; a larger number counts as a million, so that the sum fits.
-fn sum(a: usize, b: usize) -> usize {
-    lists::at_most(a, 1000000) + lists::at_most(b, 1000000)
-}
-
-fn with_call(s: Sums, r: Scanned) -> Sums {
-    let hold = r.hold;
-    Sums {
-        hold,
-        dropped: sum(s.dropped, r.counts.dropped),
-        checked: sum(s.checked, r.counts.checked),
-    }
 }
 
 fn show_packet(p: Packet) {
@@ -50,62 +33,78 @@ fn show_packet(p: Packet) {
 
 fn shown(r: Scanned, took: bool) {
     if took {
-        filled(b" took %", &[r.counts.taken]);
+        labelled(b" took ", r.counts.taken);
     }
     if r.found {
         show_packet(r.packet);
     }
 }
 
-// Calls until all is taken and the answer is waiting; `took` says whether to print what each call took. By
-// `four-bytes-a-packet`, with at most 25 bytes held before, there are no more calls than the loop allows.
-fn calls(before: Sums, bytes: &[u8], took: bool) -> Sums {
-    let mut s = before;
+// One call; `took` says whether to print what it took.
+fn call(s: Sums, piece: &[u8], took: bool) -> Sums {
+    let before = s.hold;
+    let r = framing::scan::scan(before, piece);
+    shown(r, took);
+    let hold = r.hold;
+    Sums {
+        hold,
+        taken: r.counts.taken,
+        found: r.found,
+        dropped: wrapping_add_usize(s.dropped, r.counts.dropped),
+        checked: wrapping_add_usize(s.checked, r.counts.checked),
+    }
+}
+
+fn told(s: Sums) {
+    labelled(b"; dropped ", s.dropped);
+    labelled(b" checked ", s.checked);
+    labelled(b" held ", s.hold.count);
+    crate::text::end();
+}
+
+// Calls until all is taken and the answer is waiting: on the bytes before `cut`, and then on the rest. A line of the script
+// spells at most 256 bytes, so that by `four-bytes-a-packet`, with at most 25 bytes held before, there are no more calls than
+// the loop allows; no call takes more than its piece.
+fn calls(before: Hold, bytes: &[u8], cut: usize, took: bool) -> Hold
+    requires { ⌜ cut ≤ length (now bytes) ⌝ }
+{
+    let mut s = Sums {
+        hold: before,
+        taken: 0,
+        found: false,
+        dropped: 0,
+        checked: 0,
+    };
     let mut at: usize = 0;
-    for _ in 0..bytes.len() / 4 + 8 {
-        let h = s.hold;
-        let r = framing::scan::scan(h, &bytes[at..]);
-        s = with_call(s, r);
-        at += r.counts.taken;
-        shown(r, took);
-        if !r.found {
-            return s;
+    let mut end = cut;
+    let mut n: usize = 0;
+    while n < 80 {
+        n += 1;
+        s = call(s, &bytes[at..end], took);
+        at += lists::at_most(s.taken, end - at);
+        if !s.found {
+            if end == bytes.len() {
+                told(s);
+                return s.hold;
+            }
+            end = bytes.len();
         }
     }
-    s
-}
-
-fn end(s: Sums) {
-    let values = [s.dropped, s.checked, s.hold.count];
-    filled(b"; dropped % checked % held %\n", &values);
-}
-
-// The bytes given to calls as they are, from what is held.
-fn scan(before: Hold, bytes: &[u8]) -> Hold {
-    let s = calls(from(before), bytes, true);
-    end(s);
     s.hold
 }
 
-// A line for bytes in two pieces, from nothing held.
-fn cut(at: usize, first: &[u8], rest: &[u8]) {
-    filled(b"cut at %", &[at]);
-    let nothing = from(packets::hold::empty());
-    let s = calls(nothing, first, false);
-    end(calls(s, rest, false));
-}
-
-// The bytes cut in two at each place.
+// The bytes cut in two at each place, from nothing held.
 fn cuts(bytes: &[u8]) {
     for at in 0..bytes.len() {
-        cut(at, &bytes[..at], &bytes[at..]);
+        labelled(b"cut at ", at);
+        calls(packets::hold::empty(), bytes, at, false);
     }
 }
 
 fn compose(bytes: &[u8]) {
     let mut out = [0u8; 26];
     if 0 < bytes.len() {
-        let n = packets::packet::compose(&mut out, bytes[0], &bytes[1..]);
+        let n = packets::packet::compose(&mut out, lists::at(bytes, 0), &bytes[1..]);
         crate::text::bytes(&out, 0, n, true);
     }
     crate::text::end();
@@ -115,7 +114,7 @@ fn compose(bytes: &[u8]) {
 pub fn run(name: usize, bytes: &[u8], held: Hold) -> Hold {
     match name {
         HEADING => return packets::hold::empty(),
-        SCAN => return scan(held, bytes),
+        SCAN => return calls(held, bytes, bytes.len(), true),
         CUTS => cuts(bytes),
         COMPOSE => compose(bytes),
         SUM => crate::text::checksum(bytes),

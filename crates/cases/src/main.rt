@@ -31,7 +31,7 @@ fn run(script: &[u8]) {
         let word = words::number(line);
         let mut room = [0u8; 256];
         let n = text::bytes_of(line, &mut room);
-        let bytes = &room[0..n];
+        let bytes = &room[..n];
         held = frames::run(word, bytes, held);
         buffers = device::run(word, line, bytes, buffers);
         show::run(word, line, buffers);

@@ -4,9 +4,11 @@ use answers::Said;
 use filing::RECORDS;
 use filing::Record;
 use panel::state::Panel;
+use session::sizes::FAULTS;
 use session::sizes::LIST;
 use session::sizes::REPLY;
 use session::sizes::SAID;
+use session::sizes::STATE;
 
 // What the call says, and the register after it.
 struct Called {
@@ -48,15 +50,15 @@ fn bytes_said(s: Said) -> [u8; SAID] {
 
 // What the call leaves, as bytes: the panel and the records that it returns, and what it says.
 fn written(b: Buffers, c: Called) -> Buffers {
-    let mut t = b;
-    let mut state = b.state;
+    let mut state = [0u8; STATE];
     statewrites::write(&mut state, c.said.panel.line, c.said.panel.body);
-    t.state = state;
-    let mut faults = b.faults;
+    let mut faults = [0u8; FAULTS];
     let left = c.register;
     registerbytes::write(&mut faults, left);
-    t.faults = faults;
     let said = bytes_said(c.said);
+    let mut t = b;
+    t.state = state;
+    t.faults = faults;
     t.said = said;
     t
 }
@@ -69,7 +71,7 @@ fn panel_in(b: Buffers) -> Panel {
     }
 }
 
-// The call, from the bytes and back to them.
+// The call, from the bytes and back to them, with a line for it.
 pub fn line(b: Buffers, piece: &[u8]) -> Buffers {
     let mut picture = b.picture;
     let font = b.font;
@@ -84,9 +86,8 @@ pub fn line(b: Buffers, piece: &[u8]) -> Buffers {
         &mut reply,
         registerbytes::read(&b.faults),
     );
-    let mut t = b;
+    let mut t = written(b, c);
     t.picture = picture;
-    t.list = list;
-    t.reply = reply;
-    written(t, c)
+    crate::show::line(&t.said, &reply, &list);
+    t
 }

@@ -50,31 +50,25 @@ pub const SUM: usize = 21;
 
 const OTHER: usize = 22;
 
-fn same(a: &[u8], b: &[u8]) -> bool {
-    if a.len() != b.len() {
-        return false;
-    }
-    let mut i = 0;
-    while i < a.len() {
-        if a[i] != b[i] {
-            return false;
-        }
-        i += 1;
-    }
-    true
-}
-
-// How many words of the list stand before the word.
+// How many words of the list stand before the word; a blank stands behind each.
 fn place(word: &[u8], list: &[u8]) -> usize {
     let mut n: usize = 0;
     let mut at: usize = 0;
+    let mut i: usize = 0;
     while at < list.len() {
-        let end = until(list, at, b' ');
-        if same(word, &list[at..end]) {
-            return n;
+        let listed = lists::at(list, at);
+        let given = lists::at(word, i);
+        if listed == given {
+            i += 1;
+            at += 1;
+        } else {
+            if (listed == b' ') & (given == 0) {
+                return n;
+            }
+            n += 1;
+            i = 0;
+            at = until(list, at, b' ') + 1;
         }
-        n += 1;
-        at = end + 1;
     }
     n
 }
@@ -82,12 +76,12 @@ fn place(word: &[u8], list: &[u8]) -> usize {
 // The number of the word that a line begins with, after printing it where what is printed begins so.
 pub fn number(line: &[u8]) -> usize {
     let end = until(line, 0, b' ');
-    let word = &line[0..end];
+    let word = &line[..end];
     let n = place(
         word,
-        b"# set unfiled count font line value faults cuts press release lend high low sizes power state cell picture scan compose sum",
+        b"# set unfiled count font line value faults cuts press release lend high low sizes power state cell picture scan compose sum ",
     );
-    if PRESS <= n && n < OTHER {
+    if (PRESS <= n) & (n < OTHER) {
         crate::text::word(word);
     }
     n

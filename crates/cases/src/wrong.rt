@@ -3,7 +3,8 @@ ghost use Prim.Native.Nat.{_≤_};
 use crate::buffers::Buffers;
 use crate::text::decimal;
 use registerbytes::RECORD;
-use saidreads::told;
+use session::sizes::SAID;
+use session::sizes::STATE;
 use statebytes::places::BOOT;
 use statebytes::places::CONTRAST;
 use statebytes::places::COUNT;
@@ -14,22 +15,23 @@ use statebytes::places::UNFILED;
 
 // One line call on a piece of zeros, which hold no packet; the line tells, in order, the sizes of the piece, the picture, the
 // font, the list, the reply buffer and the register.
-pub fn sizes(line: &[u8], state: &mut [u8]) {
-    let a = decimal(line, 0, 4097);
-    let b = decimal(line, 1, 641);
-    let c = decimal(line, 2, 2049);
-    let d = decimal(line, 3, 81);
-    let e = decimal(line, 4, 27);
-    let f = decimal(line, 5, 65) * RECORD;
+pub fn sizes(line: &[u8], state: [u8; STATE]) -> [u8; STATE] {
+    let mut t = state;
     let piece = [0u8; 4097];
     let mut screen = [0u8; 641];
     let font = [0u8; 2049];
     let mut list = [0u8; 81];
     let mut reply = [0u8; 27];
     let mut faults = [0u8; 455];
-    let mut said = [0u8; session::sizes::SAID];
+    let mut said = [0u8; SAID];
+    let a = decimal(line, 0, 4097);
+    let b = decimal(line, 1, 641);
+    let c = decimal(line, 2, 2049);
+    let d = decimal(line, 3, 81);
+    let e = decimal(line, 4, 27);
+    let f = decimal(line, 5, 65) * RECORD;
     naupelys::naupelys_line(
-        state,
+        &mut t,
         &piece[..a],
         &mut screen[..b],
         &font[..c],
@@ -39,6 +41,7 @@ pub fn sizes(line: &[u8], state: &mut [u8]) {
         &mut said,
     );
     crate::show::call(&said);
+    t
 }
 
 fn drawn(screen: &[u8; 641]) {
@@ -54,8 +57,8 @@ pub fn power(line: &[u8]) {
     let c = decimal(line, 1, 2049);
     let mut screen = [170u8; 641];
     let font = [0u8; 2049];
-    let mut state = [0u8; session::sizes::STATE];
-    let mut said = [0u8; session::sizes::SAID];
+    let mut state = [0u8; STATE];
+    let mut said = [0u8; SAID];
     naupelys::naupelys_power_on(&mut state, &mut screen[..b], &font[..c], &mut said);
     crate::show::call(&said);
     drawn(&screen);
@@ -74,10 +77,11 @@ pub fn reply_size(word: usize, line: &[u8]) -> usize
 
 // One value of the state set without a command: the unfiled number, or by the first letter behind "set" the live settings'
 // contrast, the boot state's style, the keys down or how many bytes are held.
-pub fn set(word: usize, line: &[u8], state: &mut [u8]) {
+pub fn set(word: usize, line: &[u8], state: [u8; STATE]) -> [u8; STATE] {
+    let mut t = state;
     if word == crate::words::UNFILED {
-        shapes::lay_word(state, UNFILED, decimal(line, 0, 4294967295) as u32);
-        return;
+        shapes::lay_word(&mut t, UNFILED, decimal(line, 0, 4294967295) as u32);
+        return t;
     }
     let place = match lists::at(line, 4) {
         b'c' => LIVE + CONTRAST,
@@ -85,13 +89,14 @@ pub fn set(word: usize, line: &[u8], state: &mut [u8]) {
         b'd' => DOWN,
         _ => COUNT,
     };
-    shapes::lay_byte(state, place, crate::text::small(line));
+    shapes::lay_counter(&mut t, place, decimal(line, 0, 255));
+    t
 }
 
 // A record's count set: its number and the count, which stands behind command, reason and place.
 pub fn count(line: &[u8], b: Buffers) -> Buffers {
-    let place = decimal(line, 0, 63) * RECORD + 3;
     let mut faults = b.faults;
+    let place = decimal(line, 0, 63) * RECORD + 3;
     shapes::lay_word(&mut faults, place, decimal(line, 1, 4294967295) as u32);
     let mut t = b;
     t.faults = faults;

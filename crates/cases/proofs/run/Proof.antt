@@ -1,5 +1,7 @@
-use Prim.Native.Nat.{_+_, _≤_, _-_}
+use Prim.Native.Nat.{_≤_, _-_, _+_}
+use mathlib.Core.Path.{sym}
 use lib.ListN.{length}
+use lib.Seq.{length-take-le}
 use borrow.Author.Needs.{needs}
 use Rattle.cases.proofs.run.Statement.{statement}
 use Rattle.cases.proofs.run.Tie as tie
@@ -9,6 +11,12 @@ Inv-loop script buffers₀ held₀ at₀ buffers held at = at ≤ length script 
 
 abbrev μ-loop : tie.MeasureT-loop
 μ-loop script buffers₀ held₀ at₀ buffers held at = length script - at
+
+array-share-prefix-room : tie.Need-array-share-prefix-room Inv-loop μ-loop
+array-share-prefix-room c = search needs
+
+slice-aggregate-bytes : tie.Need-slice-aggregate-bytes Inv-loop μ-loop
+slice-aggregate-bytes c = sym (length-take-le _ _ (array-share-prefix-room (c .before)))
 
 pub run-spec : {M : Type 1} → statement M
 run-spec =
@@ -27,9 +35,8 @@ run-spec =
     (λ c κs. search needs)
     (λ c. search needs)
     (λ c κs. search needs)
-    (λ c. search needs)
-    (λ c. search needs)
-    (λ c. search needs)
+    array-share-prefix-room
+    slice-aggregate-bytes
     (λ c κs. search needs)
     (λ c κs. search needs)
     (λ c κs. search needs)

@@ -5,10 +5,10 @@ use Rattle.cases.proofs.text.decimal.Statement.{statement}
 use Rattle.cases.proofs.text.decimal.Tie as tie
 
 abbrev Inv-loop : tie.InvT-loop
-Inv-loop s wanted most r₀ i₀ r i = i ≤ length s
+Inv-loop s wanted most passed₀ inside₀ value₀ i₀ passed inside value i = i ≤ length s
 
 abbrev μ-loop : tie.MeasureT-loop
-μ-loop s wanted most r₀ i₀ r i = length s - i
+μ-loop s wanted most passed₀ inside₀ value₀ i₀ passed inside value i = length s - i
 
 pub decimal-spec : {M : Type 1} → statement M
 decimal-spec =
@@ -16,6 +16,11 @@ decimal-spec =
     (tie.spec
     Inv-loop
     μ-loop
+    (λ c. search needs)
+    (λ c κs. search needs)
+    (λ c κs. search needs)
+    (λ c κs. search needs)
+    (λ c. search needs)
     (λ c. search needs)
     (λ c. search needs)
     (λ c κs. search needs)

@@ -5,10 +5,10 @@ use Rattle.cases.proofs.text.filled.Statement.{statement}
 use Rattle.cases.proofs.text.filled.Tie as tie
 
 abbrev Inv-loop : tie.InvT-loop
-Inv-loop text values at₀ i₀ at i = (at ≤ length text + 1) × (i ≤ at)
+Inv-loop text s place at₀ i₀ at i = (at ≤ length text + 1) × (i ≤ at)
 
 abbrev μ-loop : tie.MeasureT-loop
-μ-loop text values at₀ i₀ at i = length text - at
+μ-loop text s place at₀ i₀ at i = length text - at
 
 pub filled-spec : {M : Type 1} → statement M
 filled-spec =
@@ -23,7 +23,7 @@ filled-spec =
     (λ c. search needs)
     (λ c κs. search needs)
     (λ c. search needs)
-    (λ c. search needs)
+    (λ c κs. search needs)
     (λ c κs. search needs)
     (λ c. search needs)
     (λ c. search needs)

@@ -1,0 +1,25 @@
+use mathlib.Core.Path.{sym}
+use native.Mathlib.Omega.{arith}
+use lib.Seq.{length-take-le}
+use borrow.Author.Needs.{needs}
+use Rattle.cases.proofs.device.key.Statement.{statement}
+use Rattle.cases.proofs.device.key.Tie as tie
+
+slice-aggregate-naupelys-key-2 : tie.Need-slice-aggregate-naupelys-key-2
+slice-aggregate-naupelys-key-2 c = sym (length-take-le _ _ (omega arith))
+
+pub key-spec : {M : Type 1} → statement M
+key-spec =
+    tie.close
+    (tie.spec
+    (λ c κs. search needs)
+    (λ c. search needs)
+    (λ c κs. search needs)
+    (λ c. search needs)
+    (λ c. search needs)
+    slice-aggregate-naupelys-key-2
+    (λ c κs. search needs)
+    (λ c κs. search needs)
+    (λ c κs. search needs)
+    (λ c. search needs)
+    (λ c. search needs))
