@@ -18,7 +18,7 @@ use naupelys::naupelys_key;
 use naupelys::naupelys_line;
 use naupelys::naupelys_pin;
 use naupelys::naupelys_power_on;
-use saidbytes::told::told;
+use saidreads::told;
 use session::sizes;
 
 // A case begins: the programs' font, the panel at power-on and an empty register.
