@@ -37,7 +37,7 @@ pub fn bytes_of(s: &[u8], out: &mut [u8]) -> usize
         let high = digit(lists::at(s, i));
         let low = digit(lists::at(s, i + 1));
         if (high < 16) & (low < 16) {
-            shapes::lay_counter(out, n, high * 16 + low);
+            shapes::lay_byte(out, n, ((high * 16 + low) % 256) as u8);
             n += 1;
             i += 2;
         } else {

@@ -89,7 +89,7 @@ pub fn set(word: usize, line: &[u8], state: [u8; STATE]) -> [u8; STATE] {
         b'd' => DOWN,
         _ => COUNT,
     };
-    shapes::lay_counter(&mut t, place, decimal(line, 0, 255));
+    shapes::lay_byte(&mut t, place, decimal(line, 0, 255) as u8);
     t
 }
 
