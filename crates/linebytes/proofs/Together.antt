@@ -11,7 +11,6 @@ use Rattle.lists.proofs.Laws.{when-true, when-false}
 use Rattle.shapes.specs.Shape.{Sized, Bytes}
 use Rattle.panel.specs.declared.state.Panel.{Panel}
 use Rattle.panel.specs.State.{lineUnfiled}
-use Rattle.panel.specs.Ranges.{inRanges}
 use Rattle.answers.specs.declared.Check.{Check}
 use Rattle.answers.specs.declared.Check.the-variants.{StateRange}
 use Rattle.answers.specs.declared.Checked.the-variants.{Passes, Fails}
