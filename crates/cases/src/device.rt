@@ -85,37 +85,27 @@ fn calls(by_value: bool, before: Buffers, bytes: &[u8]) -> Buffers {
     b
 }
 
-// A key pressed or released; "lend" presses it with a reply buffer of the size that stands behind the key.
-fn key(word: usize, line: &[u8], state: [u8; sizes::STATE]) -> [u8; sizes::STATE] {
+// A key pressed, or released.
+fn key(line: &[u8], down: bool, state: [u8; sizes::STATE]) -> [u8; sizes::STATE] {
     let mut t = state;
-    let mut reply = [0u8; 27];
+    let mut reply = [0u8; sizes::REPLY];
     let mut said = [0u8; sizes::SAID];
-    let size = crate::wrong::reply_size(word, line);
     naupelys_key(
         &mut t,
         decimal(line, 0, 255) as u32,
-        word != RELEASE,
-        &mut reply[..size],
+        down,
+        &mut reply,
         &mut said,
     );
-    if word == LEND {
-        crate::show::call(&said);
-    } else {
-        crate::show::key(&said, &reply);
-    }
+    crate::show::key(&said, &reply);
     t
 }
 
 // A pin that goes high, or low.
-fn pin(word: usize, line: &[u8], state: [u8; sizes::STATE]) -> [u8; sizes::STATE] {
+fn pin(line: &[u8], high: bool, state: [u8; sizes::STATE]) -> [u8; sizes::STATE] {
     let mut t = state;
     let mut said = [0u8; sizes::SAID];
-    naupelys_pin(
-        &mut t,
-        decimal(line, 0, 255) as u32,
-        word == HIGH,
-        &mut said,
-    );
+    naupelys_pin(&mut t, decimal(line, 0, 255) as u32, high, &mut said);
     crate::show::call(&said);
     t
 }
@@ -134,10 +124,14 @@ fn rows(b: Buffers, bytes: &[u8]) -> Buffers {
 // A word that changes the state alone.
 fn on_state(word: usize, line: &[u8], state: [u8; sizes::STATE]) -> [u8; sizes::STATE] {
     match word {
-        PRESS | RELEASE | LEND => key(word, line, state),
-        HIGH | LOW => pin(word, line, state),
+        PRESS => key(line, true, state),
+        RELEASE => key(line, false, state),
+        LEND => crate::wrong::lend(line, state),
+        HIGH => pin(line, true, state),
+        LOW => pin(line, false, state),
         SIZES => crate::wrong::sizes(line, state),
-        SET | UNFILED => crate::wrong::set(word, line, state),
+        SET => crate::wrong::set(line, state),
+        UNFILED => crate::wrong::unfiled(line, state),
         _ => state,
     }
 }
@@ -150,7 +144,8 @@ pub fn run(word: usize, line: &[u8], bytes: &[u8], b: Buffers) -> Buffers {
             crate::text::end();
             begin()
         }
-        LINE | VALUE => calls(word == VALUE, b, bytes),
+        LINE => calls(false, b, bytes),
+        VALUE => calls(true, b, bytes),
         FONT => rows(b, bytes),
         COUNT => crate::wrong::count(line, b),
         _ => {

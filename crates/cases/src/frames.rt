@@ -11,7 +11,6 @@ use crate::words::SCAN;
 use crate::words::SUM;
 use framing::scan::Scanned;
 use packets::hold::Hold;
-use packets::packet::Packet;
 use std::num::wrapping_add_usize;
 
 // What calls come to, besides their packets; of the last one what it took and whether it found a packet.
@@ -23,24 +22,21 @@ struct Sums {
     checked: usize,
 }
 
-fn show_packet(p: Packet) {
-    let content = p.content;
-    word(b" [");
-    byte(p.kind, true);
-    crate::text::bytes(&content, 0, p.length, true);
-    word(b"]");
-}
-
+// What a call took, where `took` says so, and its packet.
 fn shown(r: Scanned, took: bool) {
     if took {
         labelled(b" took ", r.counts.taken);
     }
     if r.found {
-        show_packet(r.packet);
+        let content = r.packet.content;
+        word(b" [");
+        byte(r.packet.kind, true);
+        crate::text::bytes(&content, 0, r.packet.length, true);
+        word(b"]");
     }
 }
 
-// One call; `took` says whether to print what it took.
+// One call.
 fn call(s: Sums, piece: &[u8], took: bool) -> Sums {
     let before = s.hold;
     let r = framing::scan::scan(before, piece);

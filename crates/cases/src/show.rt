@@ -35,7 +35,7 @@ pub fn line(said: &[u8; sizes::SAID], reply: &[u8; sizes::REPLY], list: &[u8; si
 }
 
 // For a key call its number and the report.
-pub fn key(said: &[u8; sizes::SAID], reply: &[u8; 27]) {
+pub fn key(said: &[u8; sizes::SAID], reply: &[u8; sizes::REPLY]) {
     filled(b": % reply", said, 0);
     bytes(reply, 0, told(said).reply, true);
     end();

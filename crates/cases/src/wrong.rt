@@ -65,24 +65,27 @@ pub fn power(line: &[u8]) {
     crate::show::state(&state);
 }
 
-// The size of a key's reply buffer: the right one, or what stands behind the key that "lend" names.
-pub fn reply_size(word: usize, line: &[u8]) -> usize
-    ensures { λ r. ⌜ r ≤ 27 ⌝ }
-{
-    if word == crate::words::LEND {
-        return decimal(line, 1, 27);
-    }
-    26
+// A key pressed with a reply buffer of the size that stands behind the key.
+pub fn lend(line: &[u8], state: [u8; STATE]) -> [u8; STATE] {
+    let mut t = state;
+    let mut reply = [0u8; 27];
+    let mut said = [0u8; SAID];
+    let size = decimal(line, 1, 27);
+    naupelys::naupelys_key(
+        &mut t,
+        decimal(line, 0, 255) as u32,
+        true,
+        &mut reply[..size],
+        &mut said,
+    );
+    crate::show::call(&said);
+    t
 }
 
-// One value of the state set without a command: the unfiled number, or by the first letter behind "set" the live settings'
-// contrast, the boot state's style, the keys down or how many bytes are held.
-pub fn set(word: usize, line: &[u8], state: [u8; STATE]) -> [u8; STATE] {
+// One value of the state set without a command, by the first letter behind "set": the live settings' contrast, the boot
+// state's style, the keys down or how many bytes are held.
+pub fn set(line: &[u8], state: [u8; STATE]) -> [u8; STATE] {
     let mut t = state;
-    if word == crate::words::UNFILED {
-        shapes::lay_word(&mut t, UNFILED, decimal(line, 0, 4294967295) as u32);
-        return t;
-    }
     let place = match lists::at(line, 4) {
         b'c' => LIVE + CONTRAST,
         b'b' => BOOT + STYLE,
@@ -90,6 +93,13 @@ pub fn set(word: usize, line: &[u8], state: [u8; STATE]) -> [u8; STATE] {
         _ => COUNT,
     };
     shapes::lay_byte(&mut t, place, decimal(line, 0, 255) as u8);
+    t
+}
+
+// The unfiled number set.
+pub fn unfiled(line: &[u8], state: [u8; STATE]) -> [u8; STATE] {
+    let mut t = state;
+    shapes::lay_word(&mut t, UNFILED, decimal(line, 0, 4294967295) as u32);
     t
 }
 
