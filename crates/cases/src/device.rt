@@ -20,6 +20,7 @@ use naupelys::naupelys_pin;
 use naupelys::naupelys_power_on;
 use saidreads::told;
 use session::sizes;
+use tally::CallTold;
 
 // A case begins: the programs' font, the panel at power-on and an empty register.
 pub fn begin() -> Buffers {
@@ -68,6 +69,11 @@ fn call(by_value: bool, b: Buffers, piece: &[u8]) -> Buffers {
     t
 }
 
+// What the last call said.
+fn last(b: Buffers) -> CallTold {
+    told(&b.said)
+}
+
 // Calls until all is taken and the answer is waiting. A line of the script spells at most 256 bytes, so that by framing's
 // `four-bytes-a-packet`, with at most 25 bytes held before, there are no more calls than the loop allows; no call takes more
 // than its piece.
@@ -76,7 +82,7 @@ fn calls(by_value: bool, before: Buffers, bytes: &[u8]) -> Buffers {
     let mut at: usize = 0;
     for _ in 0..72usize {
         b = call(by_value, b, &bytes[at..]);
-        let c = told(&b.said);
+        let c = last(b);
         at += lists::at_most(c.taken as usize, bytes.len() - at);
         if (c.number < 2) | (4 < c.number) {
             return b;

@@ -55,19 +55,20 @@ fn fault(place: u8, r: Record) {
     }
 }
 
-// The records in use, and the unfiled number.
-fn register(b: Buffers) {
-    let records = registerbytes::read(&b.faults);
+fn faults(records: [Record; RECORDS], unfiled: u32) {
     let mut i: usize = 0;
     while i < RECORDS {
         fault(i as u8, records[i]);
         i += 1;
     }
-    labelled(
-        b"unfiled ",
-        statebytes::line::read_line(&b.state).unfiled as usize,
-    );
+    labelled(b"unfiled ", unfiled as usize);
     end();
+}
+
+// The records in use, and the unfiled number.
+fn register(b: Buffers) {
+    let kept = statebytes::line::read_line(&b.state);
+    faults(registerbytes::read(&b.faults), kept.unfiled);
 }
 
 // The bits of the pins' three bytes, five of each.

@@ -1,21 +1,20 @@
 use Prim.Native.Nat.{_≤_, _-_}
 use borrow.Author.Needs.{needs}
-use Rattle.cases.proofs.show.register.Statement.{statement}
-use Rattle.cases.proofs.show.register.Tie as tie
+use Rattle.cases.proofs.show.faults.Statement.{statement}
+use Rattle.cases.proofs.show.faults.Tie as tie
 
 abbrev Inv-loop : tie.InvT-loop
-Inv-loop b records i₀ t5 i = i ≤ 64
+Inv-loop unfiled records i₀ t5 i = i ≤ 64
 
 abbrev μ-loop : tie.MeasureT-loop
-μ-loop b records i₀ t5 i = 64 - i
+μ-loop unfiled records i₀ t5 i = 64 - i
 
-pub register-spec : {M : Type 1} → statement M
-register-spec =
+pub faults-spec : {M : Type 1} → statement M
+faults-spec =
     tie.close
     (tie.spec
     Inv-loop
     μ-loop
-    (λ c κs. search needs)
     (λ c. search needs)
     (λ c. search needs)
     (λ c. search needs)
@@ -24,8 +23,6 @@ register-spec =
     (λ c. search needs)
     (λ c. search needs)
     (λ c. search needs)
-    (λ c. search needs)
-    (λ c κs. search needs)
     (λ c. search needs)
     (λ c κs. search needs)
     (λ c κs. search needs)
