@@ -3,8 +3,8 @@ use Prim.Native.Nat.{ℕ}
 use mathlib.Core.Path.{_≡_}
 use mathlib.Core.Bool.{Bool, true, false}
 use Rattle.lists.specs.Tests.{_=?_}
-use Rattle.framing.specs.declared.scan.Counts.{Counts}
-use Rattle.panel.specs.declared.state.Panel.{Panel}
+use Rattle.framing.specs.declared.Counts.{Counts}
+use Rattle.panel.specs.declared.Panel.{Panel}
 use Rattle.panel.specs.State.{lineUnfiled}
 use Rattle.verdict.specs.Verdict.{reasonNumber}
 use Rattle.answers.specs.declared.Check.{Check}

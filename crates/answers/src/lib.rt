@@ -4,9 +4,9 @@ ghost use Rattle.verdict.specs.Verdict.{reasonNumber};
 ghost use Rattle.answers.specs.Answer.{checkNumber, Tells, Hands, TellsDone, TakesNothing};
 ghost use Rattle.answers.specs.Checks.{Checks};
 use filing::Refusal;
-use framing::scan::Counts;
-use panel::state::Panel;
-use verdict::verdict::Reason;
+use framing::Counts;
+use panel::Panel;
+use verdict::Reason;
 
 // The checks of the calls, in the order of their numbers.
 pub enum Check {

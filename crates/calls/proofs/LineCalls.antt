@@ -3,7 +3,7 @@ use Prim.Native.Nat.{ℕ}
 use mathlib.Core.Path.{_≡_, refl, _∙_, ap}
 use mathlib.Core.Bool.{Bool, true, false}
 use mathlib.Core.List.{List}
-use Rattle.panel.specs.declared.state.Panel.{Panel}
+use Rattle.panel.specs.declared.Panel.{Panel}
 use Rattle.filing.specs.declared.Record.{Record}
 use Rattle.filing.specs.Filing.{Files, filedIf}
 use Rattle.register.specs.Run.{FilesIn}
@@ -13,7 +13,7 @@ use Rattle.listen.specs.declared.Heard.{Heard}
 use Rattle.perform.specs.declared.Performed.{Performed}
 use Rattle.linecall.specs.Line.{Lent, lineHeard, saidWith, lineSaid, filesAfter, LineSays, LineCall}
 use Rattle.linecall.proofs.Ways.{replyOnceHeard, says-performed, says-left}
-use Rattle.calls.specs.declared.line.Spoken.{Spoken}
+use Rattle.calls.specs.declared.Spoken.{Spoken}
 use Rattle.calls.specs.Line.{Follows, HearsAll}
 
 module _ (p : Panel) (l : Lent) where

@@ -3,7 +3,7 @@ use mathlib.Core.Path.{sym, _∙_}
 use mathlib.Core.List.{List}
 use Prim.Native.Nat.{ℕ}
 use Rattle.lists.specs.Promise.{Determined}
-use Rattle.panel.specs.declared.state.Panel.{Panel}
+use Rattle.panel.specs.declared.Panel.{Panel}
 use Rattle.filing.specs.declared.Record.{Record}
 use Rattle.answers.specs.declared.Said.{Said}
 use Rattle.linecall.specs.Line.{Lent, LineCall}

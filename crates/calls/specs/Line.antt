@@ -3,15 +3,15 @@ use Prim.Native.Nat.{ℕ}
 use mathlib.Core.Path.{_≡_}
 use mathlib.Core.Bool.{true, false}
 use mathlib.Core.List.{List}
-use Rattle.panel.specs.declared.state.Body.{Body}
-use Rattle.panel.specs.declared.state.Panel.{Panel}
+use Rattle.panel.specs.declared.Body.{Body}
+use Rattle.panel.specs.declared.Panel.{Panel}
 use Rattle.answers.specs.declared.Said.{Said}
 use Rattle.answers.specs.Answer.{isDone, filingOf}
 use Rattle.listen.specs.declared.Heard.{Heard}
 use Rattle.perform.specs.declared.Performed.{Performed}
 use Rattle.perform.specs.Perform.{Performs}
 use Rattle.linecall.specs.Line.{Lent, lineSaid, linePicture, lineList, lineReply}
-use Rattle.calls.specs.declared.line.Spoken.{Spoken}
+use Rattle.calls.specs.declared.Spoken.{Spoken}
 
 -- what a call says, with what is to be filed of it
 abbrev pub spokenOf : Said → Spoken

@@ -9,8 +9,8 @@ use crate::words::CUTS;
 use crate::words::HEADING;
 use crate::words::SCAN;
 use crate::words::SUM;
-use framing::scan::Scanned;
-use packets::hold::Hold;
+use framing::Scanned;
+use packets::Hold;
 use std::num::wrapping_add_usize;
 
 // What calls come to, besides their packets; of the last one what it took and whether it found a packet.
@@ -39,7 +39,7 @@ fn shown(r: Scanned, took: bool) {
 // One call.
 fn call(s: Sums, piece: &[u8], took: bool) -> Sums {
     let before = s.hold;
-    let r = framing::scan::scan(before, piece);
+    let r = framing::scan(before, piece);
     shown(r, took);
     let hold = r.hold;
     Sums {
@@ -93,14 +93,14 @@ fn calls(before: Hold, bytes: &[u8], cut: usize, took: bool) -> Hold
 fn cuts(bytes: &[u8]) {
     for at in 0..bytes.len() {
         labelled(b"cut at ", at);
-        calls(packets::hold::empty(), bytes, at, false);
+        calls(packets::empty(), bytes, at, false);
     }
 }
 
 fn compose(bytes: &[u8]) {
     let mut out = [0u8; 26];
     if 0 < bytes.len() {
-        let n = packets::packet::compose(&mut out, lists::at(bytes, 0), &bytes[1..]);
+        let n = packets::compose(&mut out, lists::at(bytes, 0), &bytes[1..]);
         crate::text::bytes(&out, 0, n, true);
     }
     crate::text::end();
@@ -109,7 +109,7 @@ fn compose(bytes: &[u8]) {
 // What is held after a line of the script that spells these bytes.
 pub fn run(name: usize, bytes: &[u8], held: Hold) -> Hold {
     match name {
-        HEADING => return packets::hold::empty(),
+        HEADING => return packets::empty(),
         SCAN => return calls(held, bytes, bytes.len(), true),
         CUTS => cuts(bytes),
         COMPOSE => compose(bytes),

@@ -22,7 +22,7 @@ mod wrong;
 // The cases, one line after the other.
 fn run(script: &[u8]) {
     let mut buffers = device::begin();
-    let mut held = packets::hold::empty();
+    let mut held = packets::empty();
     let mut at: usize = 0;
     while at < script.len() {
         let end = text::until(script, at, b'\n');

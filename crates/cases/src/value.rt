@@ -3,7 +3,7 @@ use crate::buffers::Buffers;
 use answers::Said;
 use filing::RECORDS;
 use filing::Record;
-use panel::state::Panel;
+use panel::Panel;
 use session::sizes::FAULTS;
 use session::sizes::LIST;
 use session::sizes::REPLY;
@@ -27,7 +27,7 @@ fn line_on(
     register: [Record; RECORDS],
 ) -> Called {
     let mut records = register;
-    let said = calls::line::line(p, piece, picture, font, list, reply, &mut records);
+    let said = calls::line(p, piece, picture, font, list, reply, &mut records);
     Called {
         said,
         register: records,

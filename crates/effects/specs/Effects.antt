@@ -5,18 +5,18 @@ use mathlib.Core.List.{List}
 use lib.ListN.{length, getD, drop, set, replicate}
 use Rattle.lists.specs.Tests.{when_then_else_, _=?_}
 use Rattle.lists.specs.Runs.{pasted}
-use Rattle.packets.specs.declared.packet.Packet.{Packet}
+use Rattle.packets.specs.declared.Packet.{Packet}
 use Rattle.packets.specs.Packet.{contentOf}
 use Rattle.bits.specs.Bits.{withoutBit}
-use Rattle.panel.specs.declared.state.Shown.{Shown}
-use Rattle.panel.specs.declared.state.Cursor.{Cursor}
-use Rattle.panel.specs.declared.state.Dials.{Dials}
-use Rattle.panel.specs.declared.state.Masks.{Masks}
-use Rattle.panel.specs.declared.state.Wires.{Wires}
-use Rattle.panel.specs.declared.state.Settings.{Settings}
-use Rattle.panel.specs.declared.state.Keys.{Keys}
-use Rattle.panel.specs.declared.state.Pins.{Pins}
-use Rattle.panel.specs.declared.state.Body.{Body}
+use Rattle.panel.specs.declared.Shown.{Shown}
+use Rattle.panel.specs.declared.Cursor.{Cursor}
+use Rattle.panel.specs.declared.Dials.{Dials}
+use Rattle.panel.specs.declared.Masks.{Masks}
+use Rattle.panel.specs.declared.Wires.{Wires}
+use Rattle.panel.specs.declared.Settings.{Settings}
+use Rattle.panel.specs.declared.Keys.{Keys}
+use Rattle.panel.specs.declared.Pins.{Pins}
+use Rattle.panel.specs.declared.Body.{Body}
 use Rattle.panel.specs.State.{withStyle, withContrast, withBacklight, withLive, withKeys, withPins}
 use Rattle.glyphs.specs.Glyphs.{eightFrom, glyphsWith}
 

@@ -2,17 +2,17 @@
 ghost use mathlib.Core.Path.{_≡_};
 ghost use lib.ListN.{set};
 ghost use Rattle.effects.specs.Effects.{withFlash, stored, polled, rebooted, cleared, glyphSet, textWritten, pinSet, pinRead, liveAfter, effect, Affects};
-use packets::packet::CONTENT;
-use packets::packet::Packet;
-use panel::state::Body;
-use panel::state::CODES;
-use panel::state::INPUTS;
-use panel::state::Keys;
-use panel::state::PINS;
-use panel::state::Pins;
-use panel::state::Settings;
-use panel::state::Shown;
-use panel::state::Wires;
+use packets::CONTENT;
+use packets::Packet;
+use panel::Body;
+use panel::CODES;
+use panel::INPUTS;
+use panel::Keys;
+use panel::PINS;
+use panel::Pins;
+use panel::Settings;
+use panel::Shown;
+use panel::Wires;
 
 fn write_flash(mut b: Body, content: &[u8]) -> Body
     ensures { λ r. ⌜ r ≡ withFlash b (now (content .entry)) ⌝ }

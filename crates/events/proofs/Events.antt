@@ -6,8 +6,8 @@ use native.Mathlib.Omega.{arith}
 use lib.Pow.{le-ones, lt-of-le-ones}
 use Rattle.bits.specs.Bits.{isOn, withBit}
 use Rattle.bits.proofs.Laws.{with-bit-below, without-bit-at-most, with-bit-on, without-bit-off, with-bit-leaves, without-bit-leaves}
-use Rattle.panel.specs.declared.state.Keys.{Keys}
-use Rattle.panel.specs.declared.state.Pins.{Pins}
+use Rattle.panel.specs.declared.Keys.{Keys}
+use Rattle.panel.specs.declared.Pins.{Pins}
 use Rattle.panel.proofs.InRange.{KeysParts, PinsParts}
 use Rattle.events.specs.Keys.{keyEvent, asTold}
 use Rattle.events.specs.Pins.{pinMoved}

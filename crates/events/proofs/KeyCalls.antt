@@ -12,8 +12,8 @@ use Rattle.lists.proofs.Laws.{when-true}
 use Rattle.bits.specs.Bits.{isOn}
 use Rattle.packets.specs.Packet.{composable, composedLength, composed}
 use Rattle.packets.proofs.Composing.{fitting}
-use Rattle.panel.specs.declared.state.Keys.{Keys}
-use Rattle.panel.specs.declared.state.Panel.{Panel}
+use Rattle.panel.specs.declared.Keys.{Keys}
+use Rattle.panel.specs.declared.Panel.{Panel}
 use Rattle.panel.specs.State.{withKeys, withBody}
 use Rattle.panel.specs.Ranges.{inRanges}
 use Rattle.panel.proofs.InRange.{panel-parts, panel-whole, keys-parts, keys-whole}

@@ -8,8 +8,8 @@ use borrow.Author.Tests.{leb-true}
 use Rattle.lists.specs.Promise.{Determined}
 use Rattle.lists.proofs.Theorems.{one, and}
 use Rattle.bits.specs.Bits.{isOn}
-use Rattle.panel.specs.declared.state.Keys.{Keys}
-use Rattle.panel.specs.declared.state.Panel.{Panel}
+use Rattle.panel.specs.declared.Keys.{Keys}
+use Rattle.panel.specs.declared.Panel.{Panel}
 use Rattle.panel.specs.Ranges.{inRanges}
 use Rattle.panel.proofs.InRange.{panel-parts, panel-whole, pins-parts, pins-whole}
 use Rattle.answers.specs.declared.Check.{Check}

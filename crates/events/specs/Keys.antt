@@ -8,9 +8,9 @@ use Rattle.lists.specs.Tests.{when_then_else_, _≤?_, _=?_}
 use Rattle.lists.specs.Runs.{front}
 use Rattle.bits.specs.Bits.{isOn, withBit, withoutBit}
 use Rattle.packets.specs.Packet.{packetBytes, composedLength, composed}
-use Rattle.panel.specs.declared.state.Masks.{Masks}
-use Rattle.panel.specs.declared.state.Keys.{Keys}
-use Rattle.panel.specs.declared.state.Panel.{Panel}
+use Rattle.panel.specs.declared.Masks.{Masks}
+use Rattle.panel.specs.declared.Keys.{Keys}
+use Rattle.panel.specs.declared.Panel.{Panel}
 use Rattle.panel.specs.State.{withKeys, withBody}
 use Rattle.panel.specs.Ranges.{inRanges}
 use Rattle.answers.specs.declared.Check.{Check}

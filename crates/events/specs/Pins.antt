@@ -5,8 +5,8 @@ use mathlib.Core.Bool.{Bool, true, false}
 use mathlib.Core.List.{List, [], _∷_}
 use Rattle.lists.specs.Tests.{_≤?_}
 use Rattle.bits.specs.Bits.{isOn, withBit, withoutBit}
-use Rattle.panel.specs.declared.state.Pins.{Pins}
-use Rattle.panel.specs.declared.state.Panel.{Panel}
+use Rattle.panel.specs.declared.Pins.{Pins}
+use Rattle.panel.specs.declared.Panel.{Panel}
 use Rattle.panel.specs.State.{withPins, withBody}
 use Rattle.panel.specs.Ranges.{inRanges}
 use Rattle.answers.specs.declared.Check.the-variants.{StateRange, KeyOrPin}

@@ -8,10 +8,10 @@ use answers::Checked;
 use answers::Said;
 use answers::also;
 use answers::nothing_taken;
-use packets::packet::REPLY;
-use panel::state::Keys;
-use panel::state::Masks;
-use panel::state::Panel;
+use packets::REPLY;
+use panel::Keys;
+use panel::Masks;
+use panel::Panel;
 
 fn after_event(k: Keys, number: u8, down: bool) -> Keys
     requires { ⌜ number ≤ 5 ⌝ }
@@ -64,7 +64,7 @@ fn report(mask: u8, number: u8, down: bool, reply: &mut [u8]) -> usize
     if !bits::is_on(mask, number) {
         return 0;
     }
-    packets::packet::compose(reply, 128, &[report_code(number, down)])
+    packets::compose(reply, 128, &[report_code(number, down)])
 }
 
 // A key goes down or up. Its report, if the mask asks for one, is written into the front of the reply buffer. The checks stand

@@ -8,8 +8,8 @@ use answers::Checked;
 use answers::Said;
 use answers::also;
 use answers::nothing_taken;
-use panel::state::Panel;
-use panel::state::Pins;
+use panel::Panel;
+use panel::Pins;
 
 // The level, and the edge if it changed.
 fn after_event(p: Pins, number: u8, high: bool) -> Pins

@@ -5,8 +5,8 @@ use Prim.Native.Nat.{ℕ, suc, _+_, _*_, _≤_}
 use native.Mathlib.Omega.{arith}
 use lib.ListN.{length, take, drop, length-append, length-drop}
 use lib.Seq.{length-take-le}
-use Rattle.packets.specs.declared.judge.Judgement.{Judgement}
-use Rattle.packets.specs.declared.judge.Judgement.the-variants.{Wait, LongLength, WrongChecksum, Packet}
+use Rattle.packets.specs.declared.Judgement.{Judgement}
+use Rattle.packets.specs.declared.Judgement.the-variants.{Wait, LongLength, WrongChecksum, Packet}
 use Rattle.packets.specs.Judge.{lengthByte, judge}
 use Rattle.packets.proofs.Judgements.{Seen, short, part, wrong, whole, see}
 use Rattle.framing.specs.Scan.{Ending, waiting, packet, Outcome, settleAt, settle, goOn, scan}

@@ -8,10 +8,10 @@ use native.Mathlib.Decide.{decLe}
 use native.Mathlib.Omega.{arith}
 use lib.ListN.{length, take, drop, take-append-drop, length-take, length-drop}
 use lib.Seq.{drop-length, take-all}
-use Rattle.packets.specs.declared.hold.Hold.{Hold}
+use Rattle.packets.specs.declared.Hold.{Hold}
 use Rattle.packets.specs.Hold.{held, holdOf}
 use Rattle.packets.proofs.Bytes.{held-holdOf}
-use Rattle.framing.specs.declared.scan.Scanned.{Scanned}
+use Rattle.framing.specs.declared.Scanned.{Scanned}
 use Rattle.framing.specs.Scan.{Ending, waiting, packet, isPacket, Outcome, scan, scannedOf, pieceMost, Scans}
 use Rattle.framing.specs.Line.{Tally, nothingMore, counted, Calls, last, next, line}
 use Rattle.framing.proofs.Lines.{noted, counted-noted, scanned, all-taken}

@@ -9,7 +9,7 @@ use lib.ListN.{length, take, drop, getD, replicate, length-drop}
 use lib.Seq.{length-take-le}
 use Rattle.lists.specs.Runs.{pasted}
 use Rattle.lists.proofs.Laws.{all-behind}
-use Rattle.packets.specs.declared.hold.Hold.{Hold}
+use Rattle.packets.specs.declared.Hold.{Hold}
 use Rattle.packets.specs.Packet.{padded}
 use Rattle.packets.specs.Hold.{holdOf}
 use Rattle.packets.specs.Judge.{lengthByte}

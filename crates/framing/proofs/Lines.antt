@@ -8,9 +8,9 @@ use native.Mathlib.Omega.{arith}
 use lib.ListN.{length, getD, take, drop}
 use lib.Seq.{append-snoc}
 use Rattle.lists.specs.Tests.{when_then_else_}
-use Rattle.packets.specs.declared.judge.Judgement.{Judgement}
-use Rattle.packets.specs.declared.judge.Judgement.the-variants.{Wait, LongLength, WrongChecksum, Packet}
-use Rattle.packets.specs.declared.packet.Packet as packets
+use Rattle.packets.specs.declared.Judgement.{Judgement}
+use Rattle.packets.specs.declared.Judgement.the-variants.{Wait, LongLength, WrongChecksum, Packet}
+use Rattle.packets.specs.declared.Packet as packets
 use Rattle.packets.specs.Packet.{packetOf}
 use Rattle.packets.specs.Hold.{holdOf}
 use Rattle.packets.specs.Judge.{lengthByte, judge}

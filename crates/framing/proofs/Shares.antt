@@ -6,11 +6,11 @@ use Prim.Native.Nat.{ℕ, _+_, _-_, _*_, _≤_}
 use native.Mathlib.Omega.{arith}
 use lib.ListN.{length, take, length-append, length-drop, length-take}
 use Rattle.lists.specs.Tests.{when_then_else_}
-use Rattle.packets.specs.declared.hold.Hold.{Hold}
-use Rattle.packets.specs.declared.packet.Packet as packets
+use Rattle.packets.specs.declared.Hold.{Hold}
+use Rattle.packets.specs.declared.Packet as packets
 use Rattle.packets.specs.Hold.{held}
 use Rattle.packets.proofs.Bytes.{held-holdOf}
-use Rattle.framing.specs.declared.scan.Scanned.{Scanned}
+use Rattle.framing.specs.declared.Scanned.{Scanned}
 use Rattle.framing.specs.Scan.{Ending, waiting, packet, isPacket, packetAt, scan, scannedOf, pieceMost, Scans}
 use Rattle.framing.specs.Line.{Tally, packetsIn, Calls, last, next}
 use Rattle.framing.proofs.Bounds.{removed, call, taken-at-most}

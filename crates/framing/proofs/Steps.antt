@@ -7,8 +7,8 @@ use native.Mathlib.Numerals.{one-add}
 use native.Mathlib.Omega.{arith}
 use lib.ListN.{length, take, drop}
 use lib.Seq.{append-snoc}
-use Rattle.packets.specs.declared.judge.Judgement.{Judgement}
-use Rattle.packets.specs.declared.judge.Judgement.the-variants.{Wait, LongLength, WrongChecksum, Packet}
+use Rattle.packets.specs.declared.Judgement.{Judgement}
+use Rattle.packets.specs.declared.Judgement.the-variants.{Wait, LongLength, WrongChecksum, Packet}
 use Rattle.packets.specs.Judge.{lengthByte, judge}
 use Rattle.packets.proofs.Judgements.{Seen, long, wrong, whole, see}
 use Rattle.framing.specs.Scan.{Ending, waiting, packet, Outcome, still, after, found, settleAt, settle, goOn, scan}

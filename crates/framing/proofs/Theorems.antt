@@ -8,10 +8,10 @@ use lib.ListN.{length, take, length-take}
 use Rattle.lists.specs.Tests.{when_then_else_}
 use Rattle.lists.specs.Promise.{Determined}
 use Rattle.lists.proofs.Theorems.{one}
-use Rattle.packets.specs.declared.hold.Hold.{Hold}
+use Rattle.packets.specs.declared.Hold.{Hold}
 use Rattle.packets.specs.Packet.{packetBytes, packetOf}
 use Rattle.packets.specs.Hold.{held}
-use Rattle.framing.specs.declared.scan.Scanned.{Scanned}
+use Rattle.framing.specs.declared.Scanned.{Scanned}
 use Rattle.framing.specs.Scan.{scannedOf, pieceMost, Scans}
 use Rattle.framing.specs.Line.{Tally, Calls, onto, line}
 use Rattle.framing.proofs.Bounds as bounds

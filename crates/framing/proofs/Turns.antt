@@ -8,11 +8,11 @@ use native.Mathlib.Omega.{arith}
 use lib.ListN.{length, take, drop, getD, length-append, length-take, length-drop, drop-of-length-le}
 use lib.Seq.{length-take-le, take-add, drop-drop, getD-take, getD-drop, take-append-le, drop-append-le}
 use Rattle.lists.proofs.Laws.{part, when-true, when-false}
-use Rattle.packets.specs.declared.judge.Judgement.the-variants.{Wait, LongLength, WrongChecksum, Packet}
+use Rattle.packets.specs.declared.Judgement.the-variants.{Wait, LongLength, WrongChecksum, Packet}
 use Rattle.packets.specs.Judge.{lengthByte, judge}
 use Rattle.packets.proofs.Judgements as seen
 use Rattle.packets.proofs.Judgements.{Seen, see}
-use Rattle.framing.specs.declared.scan.Walked.{Walked}
+use Rattle.framing.specs.declared.Walked.{Walked}
 use Rattle.framing.specs.Scan.{still, after, found}
 use Rattle.framing.specs.Walk.{between, from, needed, Reaches, Walks}
 use Rattle.framing.proofs.Waits.{waits-for, more-wait}

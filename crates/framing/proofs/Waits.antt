@@ -6,7 +6,7 @@ use native.Mathlib.Omega.{arith}
 use borrow.Author.Tests.{lt-ltb, le-ltb}
 use lib.ListN.{length, length-append}
 use Rattle.lists.proofs.Laws.{when-true, when-false}
-use Rattle.packets.specs.declared.judge.Judgement.the-variants.{Wait}
+use Rattle.packets.specs.declared.Judgement.the-variants.{Wait}
 use Rattle.packets.specs.Judge.{lengthByte, judge}
 use Rattle.packets.proofs.Judgements.{Seen, short, part, shown, see, length-more}
 use Rattle.framing.specs.Walk.{needed}

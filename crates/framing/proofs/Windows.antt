@@ -10,7 +10,7 @@ use lib.Seq.{paste, take-paste, take-all, length-take-le, take-append-le, drop-a
 use Rattle.lists.specs.Runs.{pasted}
 use Rattle.lists.proofs.Laws.{pasted-fits, length-pasted}
 use Rattle.packets.proofs.Bytes.{padding}
-use Rattle.framing.specs.declared.scan.Walked.{Walked}
+use Rattle.framing.specs.declared.Walked.{Walked}
 use Rattle.framing.specs.Scan.{still, after, found, scan}
 use Rattle.framing.specs.Walk.{between, from, Walks}
 use Rattle.framing.proofs.Turns.{waits, is-packet, is-wait, brought, used-up}

@@ -5,14 +5,14 @@ use mathlib.Core.Bool.{false}
 use mathlib.Core.List.{List, [], _∷_, _++_}
 use lib.ListN.{length, getD, take, drop}
 use Rattle.lists.specs.Tests.{when_then_else_}
-use Rattle.packets.specs.declared.hold.Hold.{Hold}
-use Rattle.packets.specs.declared.judge.Judgement.{Judgement}
-use Rattle.packets.specs.declared.judge.Judgement.the-variants.{Wait, LongLength, WrongChecksum, Packet}
-use Rattle.packets.specs.declared.packet.Packet as packets
+use Rattle.packets.specs.declared.Hold.{Hold}
+use Rattle.packets.specs.declared.Judgement.{Judgement}
+use Rattle.packets.specs.declared.Judgement.the-variants.{Wait, LongLength, WrongChecksum, Packet}
+use Rattle.packets.specs.declared.Packet as packets
 use Rattle.packets.specs.Packet.{packetOf}
 use Rattle.packets.specs.Hold.{holdOf}
 use Rattle.packets.specs.Judge.{lengthByte, judge}
-use Rattle.framing.specs.declared.scan.Scanned.{Scanned}
+use Rattle.framing.specs.declared.Scanned.{Scanned}
 use Rattle.framing.specs.Scan.{Scans}
 
 -- what calls come to: their packets in order, the hold at the end, the sums of the bytes dropped and checked

@@ -4,14 +4,14 @@ use mathlib.Core.Path.{_≡_}
 use mathlib.Core.Bool.{Bool, true, false}
 use mathlib.Core.List.{List, [], _∷_, _++_}
 use lib.ListN.{getD, take, drop}
-use Rattle.packets.specs.declared.hold.Hold.{Hold}
-use Rattle.packets.specs.declared.judge.Judgement.{Judgement}
-use Rattle.packets.specs.declared.judge.Judgement.the-variants.{Wait, LongLength, WrongChecksum, Packet}
-use Rattle.packets.specs.declared.packet.Packet as packets
+use Rattle.packets.specs.declared.Hold.{Hold}
+use Rattle.packets.specs.declared.Judgement.{Judgement}
+use Rattle.packets.specs.declared.Judgement.the-variants.{Wait, LongLength, WrongChecksum, Packet}
+use Rattle.packets.specs.declared.Packet as packets
 use Rattle.packets.specs.Packet.{packetOf}
 use Rattle.packets.specs.Hold.{held, holdOf}
 use Rattle.packets.specs.Judge.{lengthByte, judge}
-use Rattle.framing.specs.declared.scan.Scanned.{Scanned}
+use Rattle.framing.specs.declared.Scanned.{Scanned}
 
 -- how a call ends: waiting, the piece used up, or with a packet of a type and data bytes
 pub data Ending : Type 0 where

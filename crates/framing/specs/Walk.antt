@@ -6,10 +6,10 @@ use mathlib.Core.Bool.{false}
 use mathlib.Core.List.{List, _++_}
 use lib.ListN.{length, take, drop}
 use Rattle.lists.specs.Tests.{when_then_else_, _<?_}
-use Rattle.packets.specs.declared.judge.Judgement.the-variants.{Wait, Packet}
+use Rattle.packets.specs.declared.Judgement.the-variants.{Wait, Packet}
 use Rattle.packets.specs.Hold.{heldMost}
 use Rattle.packets.specs.Judge.{lengthByte, judge}
-use Rattle.framing.specs.declared.scan.Walked.{Walked}
+use Rattle.framing.specs.declared.Walked.{Walked}
 use Rattle.framing.specs.Scan.{Outcome, after, scan}
 
 -- the bytes from place s up to place e

@@ -4,7 +4,7 @@ use mathlib.Core.Bool.{true, false}
 use Prim.Native.Nat.{ℕ}
 use mathlib.Core.List.{List}
 use Rattle.lists.proofs.Laws.{when-true, when-false}
-use Rattle.panel.specs.declared.state.Panel.{Panel}
+use Rattle.panel.specs.declared.Panel.{Panel}
 use Rattle.statebytes.specs.State.{panelOf, isState, onState}
 
 module _ {A : Type 0} (state : List ℕ) (refused : A) (call : Panel → A) where

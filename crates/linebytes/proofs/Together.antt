@@ -9,7 +9,7 @@ use lib.ListN.{length}
 use Rattle.lists.specs.Tests.{when_then_else_, _<?_}
 use Rattle.lists.proofs.Laws.{when-true, when-false}
 use Rattle.shapes.specs.Shape.{Sized, Bytes}
-use Rattle.panel.specs.declared.state.Panel.{Panel}
+use Rattle.panel.specs.declared.Panel.{Panel}
 use Rattle.panel.specs.State.{lineUnfiled}
 use Rattle.answers.specs.declared.Check.{Check}
 use Rattle.answers.specs.declared.Check.the-variants.{StateRange}

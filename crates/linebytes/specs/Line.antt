@@ -3,7 +3,7 @@ use Prim.Native.Nat.{ℕ}
 use mathlib.Core.Path.{_≡_}
 use mathlib.Core.List.{List}
 use Rattle.lists.specs.Tests.{when_then_else_, _<?_, _=?_}
-use Rattle.panel.specs.declared.state.Panel.{Panel}
+use Rattle.panel.specs.declared.Panel.{Panel}
 use Rattle.panel.specs.State.{lineUnfiled}
 use Rattle.filing.specs.Filing.{Files, filedIf}
 use Rattle.answers.specs.declared.Answer.{Answer}

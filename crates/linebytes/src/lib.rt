@@ -8,7 +8,7 @@ use answers::Checked;
 use filing::RECORDS;
 use listen::Heard;
 use listen::Sizes;
-use panel::state::Line;
+use panel::Line;
 use registerbytes::REGISTER;
 
 // How many records so many bytes are; 0 where they are no register.

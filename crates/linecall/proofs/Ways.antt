@@ -6,7 +6,7 @@ use mathlib.Core.List.{List}
 use lib.ListN.{length}
 use borrow.Author.Tests.{eqb-true}
 use Rattle.lists.specs.Tests.{when_then_else_}
-use Rattle.panel.specs.declared.state.Panel.{Panel}
+use Rattle.panel.specs.declared.Panel.{Panel}
 use Rattle.panel.specs.Ranges.{inRanges}
 use Rattle.picture.proofs.Changes.{changed-same, painted-same}
 use Rattle.picture.proofs.Sizes.{repaints-sized}

@@ -5,7 +5,7 @@ use mathlib.Core.Bool.{Bool, true, true≢false}
 use mathlib.Core.List.{List}
 use lib.ListN.{length}
 use Rattle.lists.specs.Tests.{when_then_else_}
-use Rattle.panel.specs.declared.state.Line.{Line}
+use Rattle.panel.specs.declared.Line.{Line}
 use Rattle.answers.specs.declared.Answer.{Answer}
 use Rattle.answers.specs.declared.Answer.the-variants.{Waiting, Stray, Done, Refused, CallRefused}
 use Rattle.answers.specs.Answer.{numbersOf, isDone}

@@ -5,7 +5,7 @@ use mathlib.Core.List.{List}
 use native.Mathlib.Omega.{arith}
 use Rattle.lists.specs.Promise.{Determined}
 use Rattle.lists.proofs.Theorems.{one, and}
-use Rattle.panel.specs.declared.state.Line.{Line}
+use Rattle.panel.specs.declared.Line.{Line}
 use Rattle.answers.specs.Answer.{checkNumber}
 use Rattle.answers.proofs.Checks.{Rising}
 use Rattle.listen.specs.declared.Sizes.{Sizes}

@@ -5,12 +5,12 @@ use mathlib.Core.Bool.{Bool}
 use mathlib.Core.List.{List, [], _∷_}
 use lib.ListN.{length, take}
 use Rattle.lists.specs.Tests.{when_then_else_, _≤?_, _=?_}
-use Rattle.packets.specs.declared.packet.Packet.{Packet}
+use Rattle.packets.specs.declared.Packet.{Packet}
 use Rattle.packets.specs.Packet.{packetOf}
 use Rattle.packets.specs.Hold.{held}
-use Rattle.framing.specs.declared.scan.Scanned.{Scanned}
+use Rattle.framing.specs.declared.Scanned.{Scanned}
 use Rattle.framing.specs.Scan.{scan, scannedOf}
-use Rattle.panel.specs.declared.state.Line.{Line}
+use Rattle.panel.specs.declared.Line.{Line}
 use Rattle.panel.specs.State.{lineHolding}
 use Rattle.answers.specs.declared.Check.{Check}
 use Rattle.answers.specs.declared.Check.the-variants.{StateRange, PieceSize, PictureSize, FontSize, ListSize, ReplySize, RegisterSize}

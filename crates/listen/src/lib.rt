@@ -7,15 +7,15 @@ use answers::Check;
 use answers::Checked;
 use answers::also;
 use filing::RECORDS;
-use framing::scan::Counts;
-use packets::packet::CONTENT;
-use packets::packet::Packet;
-use packets::packet::REPLY;
-use panel::state::Line;
+use framing::Counts;
+use packets::CONTENT;
+use packets::Packet;
+use packets::REPLY;
+use panel::Line;
 use picture::repaint::FONT;
 use picture::repaint::LIST;
 use picture::repaint::PICTURE;
-use verdict::verdict::Verdict;
+use verdict::Verdict;
 
 // The longest piece.
 pub const PIECE: usize = 4096;
@@ -47,7 +47,7 @@ fn answer_to(p: Packet) -> Answer
     }
     let bytes = p.content;
     let n = lists::at_most(p.length, CONTENT);
-    match verdict::verdict::verdict_on(code, &bytes[..n]) {
+    match verdict::verdict_on(code, &bytes[..n]) {
         Verdict::Allowed => Answer::Done(code),
         Verdict::Refused(reason, place) => Answer::Refused(code, reason, place),
     }
@@ -58,7 +58,7 @@ fn refuse(answer: Answer, reply: &mut [u8]) -> usize
     ensures { λ r. ⌜ RepliesRefused answer (now (reply .entry)) r (now (reply .exit)) ⌝ }
 {
     match answer {
-        Answer::Refused(code, _, _) => packets::packet::compose(reply, 192 + code % 64, &[]),
+        Answer::Refused(code, _, _) => packets::compose(reply, 192 + code % 64, &[]),
         _ => 0,
     }
 }
@@ -87,7 +87,7 @@ fn answer_in(found: bool, p: Packet) -> Answer
 pub fn hear(line: Line, piece: &[u8], reply: &mut [u8]) -> Heard
     ensures { λ r. ⌜ HearsPiece line (now (piece .entry)) (now (reply .entry)) r (now (reply .exit)) ⌝ }
 {
-    let s = framing::scan::scan(line.hold, piece);
+    let s = framing::scan(line.hold, piece);
     let hold = s.hold;
     let packet = s.packet;
     let counts = s.counts;

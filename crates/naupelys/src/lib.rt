@@ -8,7 +8,7 @@ ghost use Rattle.linebytes.specs.Line.{recordsIn, LineBytes};
 ghost use Rattle.naupelys.specs.Calls.{Told, EndsCall, PowerOnBytes, KeyBytes, PinBytes};
 use answers::Check;
 use answers::Said;
-use panel::state::Panel;
+use panel::Panel;
 use statebytes::places::SIZE;
 
 // The answer and the counts written as what the call says; the answer's number.
@@ -35,7 +35,7 @@ fn panel_in(state: &[u8]) -> Panel
     ensures { λ r. ⌜ r ≡ panelOf (now (state .entry)) ⌝ }
 {
     if state.len() != SIZE {
-        return panel::state::powered_on();
+        return panel::powered_on();
     }
     Panel {
         line: statebytes::line::read_line(state),

@@ -10,7 +10,7 @@ use lib.Seq.{take-at, getD-at, getD-append-add}
 use Rattle.lists.specs.Runs.{front, pasted}
 use Rattle.lists.proofs.Laws.{when-true, when-false, front-more, front-run}
 use Rattle.fcs.specs.Fcs.{checksum}
-use Rattle.packets.specs.declared.judge.Judgement.the-variants.{Packet}
+use Rattle.packets.specs.declared.Judgement.the-variants.{Packet}
 use Rattle.packets.specs.Packet.{covered, lowFirst, packetBytes, composable, composedLength, composed, Composes}
 use Rattle.packets.specs.Judge.{checksumRight, judge}
 use Rattle.packets.proofs.Bytes.{packet-length}

@@ -11,8 +11,8 @@ use lib.Dec.{eqb}
 use lib.ListN.{length, getD, take, drop, length-append, length-drop, List·getD-append}
 use lib.Seq.{take-append-le, drop-append-le}
 use Rattle.lists.specs.Tests.{when_then_else_}
-use Rattle.packets.specs.declared.judge.Judgement.{Judgement}
-use Rattle.packets.specs.declared.judge.Judgement.the-variants.{Wait, LongLength, WrongChecksum, Packet}
+use Rattle.packets.specs.declared.Judgement.{Judgement}
+use Rattle.packets.specs.declared.Judgement.the-variants.{Wait, LongLength, WrongChecksum, Packet}
 use Rattle.fcs.specs.Fcs.{checksum}
 use Rattle.packets.specs.Judge.{lengthByte, checksumRight, judge}
 

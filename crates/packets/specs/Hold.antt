@@ -3,7 +3,7 @@ use Prim.Native.Nat.{ℕ}
 use mathlib.Core.Path.{_≡_}
 use mathlib.Core.List.{List, []}
 use lib.ListN.{length, take}
-use Rattle.packets.specs.declared.hold.Hold.{Hold}
+use Rattle.packets.specs.declared.Hold.{Hold}
 use Rattle.packets.specs.Packet.{padded}
 
 -- "at most 25 bytes are held"

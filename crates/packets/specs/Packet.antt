@@ -6,7 +6,7 @@ use mathlib.Core.List.{List, [], _∷_, _++_}
 use lib.ListN.{length, replicate, take}
 use Rattle.lists.specs.Tests.{when_then_else_, _=?_, _≤?_}
 use Rattle.lists.specs.Runs.{front}
-use Rattle.packets.specs.declared.packet.Packet.{Packet}
+use Rattle.packets.specs.declared.Packet.{Packet}
 use Rattle.fcs.specs.Fcs.{checksum}
 
 -- "length n (0 to 22)"

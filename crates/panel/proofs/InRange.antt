@@ -6,10 +6,10 @@ use mathlib.Core.Bool.{Bool, true, false, _&&_, and-eq-true-iff}
 use lib.ListN.{set}
 use borrow.Author.Tests.{leb-true, le-leb}
 use Rattle.lists.specs.Tests.{allAtMost, when_then_else_}
-use Rattle.panel.specs.declared.state.Settings.{Settings}
-use Rattle.panel.specs.declared.state.Keys.{Keys}
-use Rattle.panel.specs.declared.state.Pins.{Pins}
-use Rattle.panel.specs.declared.state.Panel.{Panel}
+use Rattle.panel.specs.declared.Settings.{Settings}
+use Rattle.panel.specs.declared.Keys.{Keys}
+use Rattle.panel.specs.declared.Pins.{Pins}
+use Rattle.panel.specs.declared.Panel.{Panel}
 use Rattle.panel.specs.Ranges.{allOf, configsInRange, cursorInRange, dialsInRange, masksInRange, partsInRange, settingsInRange, keysInRange, pinsInRange, inRanges}
 
 pub record PanelParts (p : Panel) : Type 0 where

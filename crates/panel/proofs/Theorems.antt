@@ -7,12 +7,12 @@ use Rattle.lists.specs.Promise.{Determined}
 use Rattle.lists.specs.Tests.{all}
 use Rattle.lists.proofs.Theorems.{one}
 use Rattle.table.specs.Table.{configAllowed}
-use Rattle.panel.specs.declared.state.Cursor.{Cursor}
-use Rattle.panel.specs.declared.state.Dials.{Dials}
-use Rattle.panel.specs.declared.state.Masks.{Masks}
-use Rattle.panel.specs.declared.state.Keys.{Keys}
-use Rattle.panel.specs.declared.state.Pins.{Pins}
-use Rattle.panel.specs.declared.state.Panel.{Panel}
+use Rattle.panel.specs.declared.Cursor.{Cursor}
+use Rattle.panel.specs.declared.Dials.{Dials}
+use Rattle.panel.specs.declared.Masks.{Masks}
+use Rattle.panel.specs.declared.Keys.{Keys}
+use Rattle.panel.specs.declared.Pins.{Pins}
+use Rattle.panel.specs.declared.Panel.{Panel}
 use Rattle.panel.specs.State.{factorySettings, poweredOn, Starts}
 use Rattle.panel.specs.Ranges.{allOf, cursorInRange, dialsInRange, masksInRange, partsInRange, keysInRange, pinsInRange, inRanges, PartsRange, InputsRange, Ranges}
 

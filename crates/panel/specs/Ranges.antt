@@ -6,14 +6,14 @@ use mathlib.Core.Bool.{Bool, true, _&&_}
 use mathlib.Core.List.{List, [], _∷_}
 use Rattle.lists.specs.Tests.{_≤?_, all, allAtMost}
 use Rattle.table.specs.Table.{configAllowed}
-use Rattle.panel.specs.declared.state.Line.{Line}
-use Rattle.panel.specs.declared.state.Cursor.{Cursor}
-use Rattle.panel.specs.declared.state.Dials.{Dials}
-use Rattle.panel.specs.declared.state.Masks.{Masks}
-use Rattle.panel.specs.declared.state.Settings.{Settings}
-use Rattle.panel.specs.declared.state.Keys.{Keys}
-use Rattle.panel.specs.declared.state.Pins.{Pins}
-use Rattle.panel.specs.declared.state.Panel.{Panel}
+use Rattle.panel.specs.declared.Line.{Line}
+use Rattle.panel.specs.declared.Cursor.{Cursor}
+use Rattle.panel.specs.declared.Dials.{Dials}
+use Rattle.panel.specs.declared.Masks.{Masks}
+use Rattle.panel.specs.declared.Settings.{Settings}
+use Rattle.panel.specs.declared.Keys.{Keys}
+use Rattle.panel.specs.declared.Pins.{Pins}
+use Rattle.panel.specs.declared.Panel.{Panel}
 
 -- all of the tests, the first one first
 unfoldable pub allOf : Bool → List Bool → Bool

@@ -3,15 +3,15 @@ use Prim.Native.Nat.{ℕ}
 use mathlib.Core.Path.{_≡_}
 use mathlib.Core.List.{[], _∷_}
 use lib.ListN.{replicate}
-use Rattle.packets.specs.declared.hold.Hold.{Hold}
+use Rattle.packets.specs.declared.Hold.{Hold}
 use Rattle.packets.specs.Hold.{holdOf}
-use Rattle.panel.specs.declared.state.Line.{Line}
-use Rattle.panel.specs.declared.state.Dials.{Dials}
-use Rattle.panel.specs.declared.state.Settings.{Settings}
-use Rattle.panel.specs.declared.state.Keys.{Keys}
-use Rattle.panel.specs.declared.state.Pins.{Pins}
-use Rattle.panel.specs.declared.state.Body.{Body}
-use Rattle.panel.specs.declared.state.Panel.{Panel}
+use Rattle.panel.specs.declared.Line.{Line}
+use Rattle.panel.specs.declared.Dials.{Dials}
+use Rattle.panel.specs.declared.Settings.{Settings}
+use Rattle.panel.specs.declared.Keys.{Keys}
+use Rattle.panel.specs.declared.Pins.{Pins}
+use Rattle.panel.specs.declared.Body.{Body}
+use Rattle.panel.specs.declared.Panel.{Panel}
 
 -- "Factory boot state, also at power-on: spaces, glyph rows 0, cursor 0,0, style 0, contrast 95, backlight 100, masks 63,
 -- pin levels 0, config 3 for pin 1 and 2 for pins 0, 2, 3 and 4"

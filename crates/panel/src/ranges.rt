@@ -2,14 +2,14 @@
 ghost use mathlib.Core.Path.{_≡_};
 ghost use Rattle.lists.specs.Tests.{allAtMost};
 ghost use Rattle.panel.specs.Ranges.{configsInRange, cursorInRange, dialsInRange, masksInRange, settingsInRange, PartsRange, InputsRange, Ranges};
-use crate::state::Cursor;
-use crate::state::Dials;
-use crate::state::Keys;
-use crate::state::Masks;
-use crate::state::Panel;
-use crate::state::Pins;
-use crate::state::Settings;
-use packets::hold::HELD;
+use crate::Cursor;
+use crate::Dials;
+use crate::Keys;
+use crate::Masks;
+use crate::Panel;
+use crate::Pins;
+use crate::Settings;
+use packets::HELD;
 
 fn cursor_in_range(c: Cursor) -> bool
     ensures { λ r. ⌜ r ≡ cursorInRange c ⌝ }

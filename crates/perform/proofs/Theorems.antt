@@ -3,8 +3,8 @@ use Prim.Native.Nat.{ℕ}
 use mathlib.Core.Path.{sym, _∙_}
 use mathlib.Core.List.{List}
 use Rattle.lists.specs.Promise.{Determined}
-use Rattle.packets.specs.declared.packet.Packet.{Packet}
-use Rattle.panel.specs.declared.state.Body.{Body}
+use Rattle.packets.specs.declared.Packet.{Packet}
+use Rattle.panel.specs.declared.Body.{Body}
 use Rattle.perform.specs.Commands.{carried}
 use Rattle.picture.proofs.Theorems.{repaint-determined}
 use Rattle.perform.specs.declared.Performed.{Performed}

@@ -1,8 +1,8 @@
 -- A packet's command carried out: what it does to the body, and what it replies.
 use Prim.Native.Nat.{_+_, _%_}
-use Rattle.packets.specs.declared.packet.Packet.{Packet}
+use Rattle.packets.specs.declared.Packet.{Packet}
 use Rattle.packets.specs.Packet.{packetOf, contentOf}
-use Rattle.panel.specs.declared.state.Body.{Body}
+use Rattle.panel.specs.declared.Body.{Body}
 use Rattle.effects.specs.Effects.{effect}
 use Rattle.replies.specs.Replies.{replyData}
 

@@ -2,9 +2,9 @@
 use Prim.Native.Nat.{ℕ}
 use mathlib.Core.Path.{_≡_}
 use mathlib.Core.List.{List}
-use Rattle.packets.specs.declared.packet.Packet.{Packet}
+use Rattle.packets.specs.declared.Packet.{Packet}
 use Rattle.packets.specs.Packet.{contentOf, composedLength, composed}
-use Rattle.panel.specs.declared.state.Body.{Body}
+use Rattle.panel.specs.declared.Body.{Body}
 use Rattle.perform.specs.Commands.{carried}
 use Rattle.picture.specs.Draw.{Screen, screenOf}
 use Rattle.picture.specs.Repaint.{RepaintsSized}

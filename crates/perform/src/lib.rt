@@ -1,8 +1,8 @@
 // The body's part of a call: a command carried out, its reply and the repaint. It knows no line.
 ghost use Rattle.perform.specs.Perform.{Replies, Performs};
-use packets::packet::CONTENT;
-use packets::packet::Packet;
-use panel::state::Body;
+use packets::CONTENT;
+use packets::Packet;
+use panel::Body;
 
 // The body after a command, its reply's length and how many cells were listed.
 pub struct Performed {
@@ -17,7 +17,7 @@ fn reply_with(packet: Packet, reply: &mut [u8]) -> usize
 {
     let content = packet.content;
     let n = lists::at_most(packet.length, CONTENT);
-    packets::packet::compose(reply, packet.kind, &content[..n])
+    packets::compose(reply, packet.kind, &content[..n])
 }
 
 // Carries a packet's command out; the reply is made from the body before it. Whether it is allowed is for the verdict to say.

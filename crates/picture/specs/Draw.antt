@@ -4,7 +4,7 @@ use mathlib.Core.Bool.{Bool, false}
 use mathlib.Core.List.{List, [], _∷_}
 use lib.ListN.{getD, set, replicate}
 use Rattle.lists.specs.Tests.{when_then_else_, _<?_}
-use Rattle.panel.specs.declared.state.Shown.{Shown}
+use Rattle.panel.specs.declared.Shown.{Shown}
 use Rattle.glyphs.specs.Glyphs.{eightFrom, nestedOf}
 
 -- the screen: the 80 codes, and the eight special glyphs of eight rows each

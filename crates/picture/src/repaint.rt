@@ -8,7 +8,7 @@ ghost use Rattle.picture.specs.Draw.{cellDrawn, drawn, screen, screenOf}
 ghost use Rattle.picture.specs.Repaint.{alike, RepaintsCell, RepaintsSized, DrawsAll};
 use crate::draw::draw;
 use crate::draw::put_cell;
-use panel::state::Shown;
+use panel::Shown;
 
 // How many cells there are, the bytes of a picture and of a font, and the size of a change list.
 pub const CELLS: usize = 80;

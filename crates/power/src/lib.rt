@@ -23,7 +23,7 @@ fn checked(picture: usize, font: usize) -> Checked
 pub fn power_on(picture: &mut [u8], font: &[u8]) -> Said
     ensures { λ r. ⌜ PowersOn (now (picture .entry)) (now (font .entry)) r (now (picture .exit)) ⌝ }
 {
-    let p = panel::state::powered_on();
+    let p = panel::powered_on();
     match checked(picture.len(), font.len()) {
         Checked::Fails(check) => nothing_taken(p, Answer::CallRefused(check), 0),
         Checked::Passes => {

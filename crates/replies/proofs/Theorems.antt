@@ -3,8 +3,8 @@ use mathlib.Core.Path.{_≡_, refl}
 use lib.ListN.{length}
 use Rattle.lists.specs.Promise.{Determined}
 use Rattle.lists.proofs.Theorems.{one}
-use Rattle.packets.specs.declared.packet.Packet.{Packet}
-use Rattle.panel.specs.declared.state.Body.{Body}
+use Rattle.packets.specs.declared.Packet.{Packet}
+use Rattle.panel.specs.declared.Body.{Body}
 use Rattle.replies.specs.Replies.{version, RepliesTo}
 
 -- The version that command 1 replies has 16 bytes.

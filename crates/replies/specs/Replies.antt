@@ -5,12 +5,12 @@ use mathlib.Core.Bool.{Bool, true, false}
 use mathlib.Core.List.{List, [], _∷_}
 use lib.ListN.{getD}
 use Rattle.lists.specs.Tests.{when_then_else_, _<?_, _=?_}
-use Rattle.packets.specs.declared.packet.Packet.{Packet}
+use Rattle.packets.specs.declared.Packet.{Packet}
 use Rattle.packets.specs.Packet.{packetOf, contentOf}
 use Rattle.bits.specs.Bits.{isOn}
-use Rattle.panel.specs.declared.state.Shown.{Shown}
-use Rattle.panel.specs.declared.state.Pins.{Pins}
-use Rattle.panel.specs.declared.state.Body.{Body}
+use Rattle.panel.specs.declared.Shown.{Shown}
+use Rattle.panel.specs.declared.Pins.{Pins}
+use Rattle.panel.specs.declared.Body.{Body}
 use Rattle.glyphs.specs.Glyphs.{eightFrom}
 
 -- 1: CFA635:h1.1,s1.6

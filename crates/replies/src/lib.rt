@@ -6,14 +6,14 @@ ghost use lib.ListN.{length, getD};
 ghost use Rattle.packets.specs.Packet.{packetOf};
 ghost use Rattle.glyphs.specs.Glyphs.{eightFrom};
 ghost use Rattle.replies.specs.Replies.{version, memory, bit, edges, pinReply, replyData, RepliesTo};
-use packets::packet::CONTENT;
-use packets::packet::Packet;
-use panel::state::Body;
-use panel::state::FLASH_BYTES;
-use panel::state::INPUTS;
-use panel::state::PINS;
-use panel::state::Pins;
-use panel::state::Shown;
+use packets::CONTENT;
+use packets::Packet;
+use panel::Body;
+use panel::FLASH_BYTES;
+use panel::INPUTS;
+use panel::PINS;
+use panel::Pins;
+use panel::Shown;
 
 fn packet_of(kind: u8, content: &[u8]) -> Packet
     requires { ⌜ length (now content) ≤ 22 ⌝ }

@@ -7,7 +7,7 @@ use Rattle.lists.specs.Promise.{Determined}
 use Rattle.lists.proofs.Theorems.{one, and}
 use Rattle.shapes.specs.Shape.{size, places, value}
 use Rattle.shapes.proofs.Laws.{read-back, length-bytes}
-use Rattle.framing.specs.declared.scan.Counts.{Counts}
+use Rattle.framing.specs.declared.Counts.{Counts}
 use Rattle.answers.specs.declared.Check.{Check}
 use Rattle.answers.specs.declared.Numbers.{Numbers}
 use Rattle.saidbytes.specs.Says.{numbersShape, countsShape, saidShape, saidParts, saidBytes, SaidFits, Says, SaysRefused}

@@ -3,7 +3,7 @@ use Prim.Native.Nat.{ℕ, _<_}
 use mathlib.Core.Path.{_≡_}
 use mathlib.Core.List.{List, [], _∷_}
 use Rattle.shapes.specs.Shape.{Shape, byte, counter, half, word, run, _▸_, _&_, Value, bytes}
-use Rattle.framing.specs.declared.scan.Counts.{Counts}
+use Rattle.framing.specs.declared.Counts.{Counts}
 use Rattle.answers.specs.declared.Check.{Check}
 use Rattle.answers.specs.declared.Check.the-variants.{StateRange}
 use Rattle.answers.specs.declared.Answer.the-variants.{CallRefused}

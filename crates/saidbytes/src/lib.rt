@@ -3,7 +3,7 @@ ghost use Rattle.saidbytes.specs.Says.{Says, SaysRefused};
 use answers::Answer;
 use answers::Check;
 use answers::Numbers;
-use framing::scan::Counts;
+use framing::Counts;
 
 // How many bytes it takes.
 pub const SAID: usize = 16;

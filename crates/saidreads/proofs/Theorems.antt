@@ -4,7 +4,7 @@ use mathlib.Core.Path.{_≡_, ap}
 use mathlib.Core.List.{List}
 use Rattle.lists.specs.Promise.{Determined}
 use Rattle.lists.proofs.Theorems.{one}
-use Rattle.framing.specs.declared.scan.Counts.{Counts}
+use Rattle.framing.specs.declared.Counts.{Counts}
 use Rattle.answers.specs.declared.Numbers.{Numbers}
 use Rattle.saidbytes.specs.Says.{saidParts, saidBytes, SaidFits}
 use Rattle.saidbytes.proofs.Theorems.{said-read-back}

@@ -7,7 +7,7 @@ pub const FONT: usize = picture::repaint::FONT;
 
 pub const LIST: usize = picture::repaint::LIST;
 
-pub const REPLY: usize = packets::packet::REPLY;
+pub const REPLY: usize = packets::REPLY;
 
 pub const FAULTS: usize = registerbytes::REGISTER;
 

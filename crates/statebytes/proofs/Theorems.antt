@@ -13,9 +13,9 @@ use Rattle.shapes.proofs.Laws.{read-back, written-back, value-fits, length-byte
 use Rattle.shapes.proofs.Laid.{written-out}
 use Rattle.lists.specs.Promise.{Determined}
 use Rattle.lists.proofs.Theorems.{one}
-use Rattle.packets.specs.declared.hold.Hold.{Hold}
-use Rattle.panel.specs.declared.state.Line.{Line}
-use Rattle.panel.specs.declared.state.Panel.{Panel}
+use Rattle.packets.specs.declared.Hold.{Hold}
+use Rattle.panel.specs.declared.Line.{Line}
+use Rattle.panel.specs.declared.Panel.{Panel}
 use Rattle.panel.specs.State.{factorySettings, poweredOn, lineHolding, lineUnfiled}
 use Rattle.statebytes.specs.Layout.{lineShape, lineParts, shownShape, cursorShape, cursorPlace, dialsShape, dialsPlace, masksShape, masksPlace, wiresShape, wiresPlace, settingsShape, bodyShape, bodyPlace, panelShape, panelParts, panelFrom}
 use Rattle.statebytes.specs.State.{stateSize, bytesOf, panelOf, isState, PanelFits, lineWith, ReadsLine, WritesLine}

@@ -2,17 +2,17 @@
 -- its place in the two lists of fields below it.
 use Prim.Native.Nat.{ℕ, _+_}
 use Rattle.shapes.specs.Shape.{Shape, byte, counter, word, run, _▸_, _&_, Value, size}
-use Rattle.panel.specs.declared.state.Line.{Line}
-use Rattle.panel.specs.declared.state.Shown.{Shown}
-use Rattle.panel.specs.declared.state.Cursor.{Cursor}
-use Rattle.panel.specs.declared.state.Dials.{Dials}
-use Rattle.panel.specs.declared.state.Masks.{Masks}
-use Rattle.panel.specs.declared.state.Wires.{Wires}
-use Rattle.panel.specs.declared.state.Settings.{Settings}
-use Rattle.panel.specs.declared.state.Keys.{Keys}
-use Rattle.panel.specs.declared.state.Pins.{Pins}
-use Rattle.panel.specs.declared.state.Body.{Body}
-use Rattle.panel.specs.declared.state.Panel.{Panel}
+use Rattle.panel.specs.declared.Line.{Line}
+use Rattle.panel.specs.declared.Shown.{Shown}
+use Rattle.panel.specs.declared.Cursor.{Cursor}
+use Rattle.panel.specs.declared.Dials.{Dials}
+use Rattle.panel.specs.declared.Masks.{Masks}
+use Rattle.panel.specs.declared.Wires.{Wires}
+use Rattle.panel.specs.declared.Settings.{Settings}
+use Rattle.panel.specs.declared.Keys.{Keys}
+use Rattle.panel.specs.declared.Pins.{Pins}
+use Rattle.panel.specs.declared.Body.{Body}
+use Rattle.panel.specs.declared.Panel.{Panel}
 
 -- how many bytes are held, the bytes, the refusals that no record holds
 abbrev pub lineShape : Shape

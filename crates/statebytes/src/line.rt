@@ -9,8 +9,8 @@ use crate::places::COUNT;
 use crate::places::HELD;
 use crate::places::SIZE;
 use crate::places::UNFILED;
-use packets::hold::Hold;
-use panel::state::Line;
+use packets::Hold;
+use panel::Line;
 use shapes::lay_byte;
 use shapes::lay_word;
 use shapes::words::word_of;
@@ -31,7 +31,7 @@ fn line_of(state: &[u8]) -> Line
     requires { ⌜ length (now state) ≡ stateSize ⌝ }
     ensures { λ r. ⌜ Stands lineShape (lineParts r) (now (state .entry)) 0 ⌝ }
 {
-    let mut bytes = [0u8; packets::hold::HELD];
+    let mut bytes = [0u8; packets::HELD];
     shapes::fill(&mut bytes, state, HELD);
     let unfiled = word_at(state, UNFILED);
     let count = lists::wide(state[COUNT]);
@@ -44,7 +44,7 @@ pub fn read_line(state: &[u8]) -> Line
     ensures { λ r. ⌜ ReadsLine (now (state .entry)) r ⌝ }
 {
     if state.len() != SIZE {
-        let panel = panel::state::powered_on();
+        let panel = panel::powered_on();
         return panel.line;
     }
     line_of(state)

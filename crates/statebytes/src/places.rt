@@ -1,9 +1,9 @@
 // Where each part stands: right behind the one before it.
-use panel::state::CODES;
-use panel::state::FLASH_BYTES;
-use panel::state::GLYPH_ROWS;
-use panel::state::INPUTS;
-use panel::state::PINS;
+use panel::CODES;
+use panel::FLASH_BYTES;
+use panel::GLYPH_ROWS;
+use panel::INPUTS;
+use panel::PINS;
 use shapes::words::WORD;
 
 // In settings, from their first byte on.
@@ -36,7 +36,7 @@ pub const COUNT: usize = 0;
 
 pub const HELD: usize = COUNT + 1;
 
-pub const UNFILED: usize = HELD + packets::hold::HELD;
+pub const UNFILED: usize = HELD + packets::HELD;
 
 pub const LIVE: usize = UNFILED + WORD;
 

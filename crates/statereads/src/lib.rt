@@ -6,20 +6,20 @@ ghost use Rattle.shapes.specs.Shape.{size, value, Stands};
 ghost use Rattle.panel.specs.Ranges.{settingsInRange, inRanges};
 ghost use Rattle.statebytes.specs.Layout.{shownShape, shownParts, cursorShape, cursorParts, cursorPlace, dialsShape, dialsParts, dialsPlace, masksShape, masksParts, masksPlace, wiresShape, wiresParts, wiresPlace, settingsShape, settingsParts, settingsFrom, bitsShape, keysParts, keysPlace, pinsParts, pinsPlace, bodyShape, bodyParts, bodyPlace};
 ghost use Rattle.statebytes.specs.State.{stateSize, panelOf, ReadsBody, RangesState};
-use panel::state::Body;
-use panel::state::CODES;
-use panel::state::Cursor;
-use panel::state::Dials;
-use panel::state::FLASH_BYTES;
-use panel::state::GLYPH_ROWS;
-use panel::state::INPUTS;
-use panel::state::Keys;
-use panel::state::Masks;
-use panel::state::PINS;
-use panel::state::Pins;
-use panel::state::Settings;
-use panel::state::Shown;
-use panel::state::Wires;
+use panel::Body;
+use panel::CODES;
+use panel::Cursor;
+use panel::Dials;
+use panel::FLASH_BYTES;
+use panel::GLYPH_ROWS;
+use panel::INPUTS;
+use panel::Keys;
+use panel::Masks;
+use panel::PINS;
+use panel::Pins;
+use panel::Settings;
+use panel::Shown;
+use panel::Wires;
 use statebytes::places::BACKLIGHT;
 use statebytes::places::BOOT;
 use statebytes::places::COLUMN;
@@ -170,7 +170,7 @@ pub fn read_body(state: &[u8]) -> Body
     ensures { λ r. ⌜ ReadsBody (now (state .entry)) r ⌝ }
 {
     if state.len() != SIZE {
-        let panel = panel::state::powered_on();
+        let panel = panel::powered_on();
         return panel.body;
     }
     body_of(state)

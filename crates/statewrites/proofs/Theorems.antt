@@ -3,8 +3,8 @@ use Prim.Native.Nat.{ℕ}
 use mathlib.Core.List.{List}
 use Rattle.lists.specs.Promise.{Determined}
 use Rattle.lists.proofs.Theorems.{one}
-use Rattle.panel.specs.declared.state.Line.{Line}
-use Rattle.panel.specs.declared.state.Body.{Body}
+use Rattle.panel.specs.declared.Line.{Line}
+use Rattle.panel.specs.declared.Body.{Body}
 use Rattle.statebytes.specs.State.{WritesState}
 
 pub write-determined : (state : List ℕ) (l : Line) (b : Body) → Determined (WritesState state l b)

@@ -9,7 +9,7 @@ use borrow.Author.Tests.{eqb-true, not-false}
 use Rattle.lists.specs.Tests.{_=?_}
 use Rattle.lists.proofs.Firsts.{none-before}
 use Rattle.table.specs.declared.Row.{Row}
-use Rattle.verdict.specs.declared.verdict.Verdict.the-variants.{Allowed}
+use Rattle.verdict.specs.declared.Verdict.the-variants.{Allowed}
 use Rattle.table.specs.Table.{table, lookUp}
 use Rattle.verdict.specs.Verdict.{inRange, firstOut, verdictOf}
 use Rattle.verdict.proofs.Reasons.{Seen, together, see}

@@ -16,10 +16,10 @@ use Rattle.packets.specs.Packet.{packetBytes, composable, composedLength, compo
 use Rattle.packets.proofs.Bytes.{packet-length}
 use Rattle.packets.proofs.Composing.{fitting}
 use Rattle.framing.proofs.Theorems as framing
-use Rattle.verdict.specs.declared.verdict.Reason.{Reason}
-use Rattle.panel.specs.declared.state.Line.{Line}
-use Rattle.panel.specs.declared.state.Body.{Body}
-use Rattle.panel.specs.declared.state.Panel.{Panel}
+use Rattle.verdict.specs.declared.Reason.{Reason}
+use Rattle.panel.specs.declared.Line.{Line}
+use Rattle.panel.specs.declared.Body.{Body}
+use Rattle.panel.specs.declared.Panel.{Panel}
 use Rattle.panel.specs.State.{lineHolding}
 use Rattle.filing.specs.declared.Record.{Record}
 use Rattle.filing.specs.Filing.{Files, filed, filedIf}

@@ -6,13 +6,13 @@ use mathlib.Core.List.{List, [], _∷_, _++_, map}
 use native.Mathlib.Omega.{arith}
 use lib.ListN.{length, take, drop, replicate}
 use Rattle.lists.specs.Tests.{when_then_else_, _=?_}
-use Rattle.packets.specs.declared.hold.Hold.{Hold}
-use Rattle.framing.specs.declared.scan.Scanned.{Scanned}
-use Rattle.framing.specs.declared.scan.Counts.{Counts}
+use Rattle.packets.specs.declared.Hold.{Hold}
+use Rattle.framing.specs.declared.Scanned.{Scanned}
+use Rattle.framing.specs.declared.Counts.{Counts}
 use Rattle.framing.specs.Line.{Tally, Calls}
 use Rattle.framing.specs.Line as lines
-use Rattle.panel.specs.declared.state.Line.{Line}
-use Rattle.panel.specs.declared.state.Panel.{Panel}
+use Rattle.panel.specs.declared.Line.{Line}
+use Rattle.panel.specs.declared.Panel.{Panel}
 use Rattle.answers.specs.declared.Answer.{Answer}
 use Rattle.answers.specs.declared.Answer.the-variants.{Waiting, Stray, Done, Refused, CallRefused}
 use Rattle.answers.specs.declared.Said.{Said}

@@ -13,18 +13,18 @@ use Rattle.glyphs.proofs.Every.{Every, Passes, glyph-set-passes, all-set}
 use Rattle.bits.proofs.Laws.{without-bit-at-most}
 use Rattle.table.specs.Table.{table, lookUp, configAllowed}
 use Rattle.table.specs.declared.Rule.the-variants.{Glyph}
-use Rattle.verdict.specs.declared.verdict.Verdict.the-variants.{Allowed}
+use Rattle.verdict.specs.declared.Verdict.the-variants.{Allowed}
 use Rattle.verdict.specs.Verdict.{inRange, verdictOf}
-use Rattle.panel.specs.declared.state.Shown.{Shown}
-use Rattle.panel.specs.declared.state.Cursor.{Cursor}
-use Rattle.panel.specs.declared.state.Dials.{Dials}
-use Rattle.panel.specs.declared.state.Masks.{Masks}
-use Rattle.panel.specs.declared.state.Wires.{Wires}
-use Rattle.panel.specs.declared.state.Settings.{Settings}
-use Rattle.panel.specs.declared.state.Keys.{Keys}
-use Rattle.panel.specs.declared.state.Pins.{Pins}
-use Rattle.panel.specs.declared.state.Body.{Body}
-use Rattle.panel.specs.declared.state.Panel.{Panel}
+use Rattle.panel.specs.declared.Shown.{Shown}
+use Rattle.panel.specs.declared.Cursor.{Cursor}
+use Rattle.panel.specs.declared.Dials.{Dials}
+use Rattle.panel.specs.declared.Masks.{Masks}
+use Rattle.panel.specs.declared.Wires.{Wires}
+use Rattle.panel.specs.declared.Settings.{Settings}
+use Rattle.panel.specs.declared.Keys.{Keys}
+use Rattle.panel.specs.declared.Pins.{Pins}
+use Rattle.panel.specs.declared.Body.{Body}
+use Rattle.panel.specs.declared.Panel.{Panel}
 use Rattle.panel.specs.State.{withStyle, withContrast, withBacklight}
 use Rattle.panel.specs.Ranges.{configsInRange, cursorInRange, dialsInRange, masksInRange, settingsInRange, keysInRange, pinsInRange, inRanges}
 use Rattle.panel.proofs.InRange.{kept, SettingsParts, settings-parts, settings-whole, keys-parts, keys-whole, pins-parts, pins-whole, panel-parts}

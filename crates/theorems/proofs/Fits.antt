@@ -16,10 +16,10 @@ use Rattle.filing.specs.declared.Record.{Record}
 use Rattle.filing.specs.declared.Filed.{Filed}
 use Rattle.filing.specs.declared.Refusal.{Refusal}
 use Rattle.filing.specs.Filing.{Files, filedIn, filedAt, filed, filedIf}
-use Rattle.panel.specs.declared.state.Settings.{Settings}
-use Rattle.panel.specs.declared.state.Body.{Body}
-use Rattle.panel.specs.declared.state.Line.{Line}
-use Rattle.panel.specs.declared.state.Panel.{Panel}
+use Rattle.panel.specs.declared.Settings.{Settings}
+use Rattle.panel.specs.declared.Body.{Body}
+use Rattle.panel.specs.declared.Line.{Line}
+use Rattle.panel.specs.declared.Panel.{Panel}
 use Rattle.panel.specs.State.{lineHolding}
 use Rattle.answers.specs.declared.Said.{Said}
 use Rattle.answers.specs.Answer.{filingOf, refusedCall}

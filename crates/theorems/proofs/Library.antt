@@ -13,7 +13,7 @@ use Rattle.lists.proofs.Laws.{when-true, when-false, when-either}
 use Rattle.framing.proofs.Theorems as framing
 use Rattle.shapes.specs.Shape.{_&_, Value, Each, Bytes, Fits, value}
 use Rattle.shapes.proofs.Laws.{value-fits}
-use Rattle.panel.specs.declared.state.Panel.{Panel}
+use Rattle.panel.specs.declared.Panel.{Panel}
 use Rattle.panel.specs.State.{poweredOn}
 use Rattle.panel.specs.Ranges.{inRanges}
 use Rattle.panel.proofs.Theorems.{power-on-in-range}

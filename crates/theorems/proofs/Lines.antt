@@ -6,16 +6,16 @@ use mathlib.Core.List.{List}
 use native.Mathlib.Omega.{arith}
 use lib.ListN.{length}
 use Rattle.lists.proofs.Laws.{when-true, when-false}
-use Rattle.packets.specs.declared.packet.Packet.{Packet}
+use Rattle.packets.specs.declared.Packet.{Packet}
 use Rattle.packets.specs.Packet.{contentOf}
 use Rattle.framing.proofs.Theorems as framing
 use Rattle.filing.specs.declared.Record.{Record}
 use Rattle.filing.specs.Filing.{filedIf}
-use Rattle.verdict.specs.declared.verdict.Verdict.the-variants.{Allowed}
+use Rattle.verdict.specs.declared.Verdict.the-variants.{Allowed}
 use Rattle.verdict.specs.Verdict.{verdictOf}
-use Rattle.panel.specs.declared.state.Body.{Body}
-use Rattle.panel.specs.declared.state.Line.{Line}
-use Rattle.panel.specs.declared.state.Panel.{Panel}
+use Rattle.panel.specs.declared.Body.{Body}
+use Rattle.panel.specs.declared.Line.{Line}
+use Rattle.panel.specs.declared.Panel.{Panel}
 use Rattle.panel.specs.State.{lineHolding}
 use Rattle.panel.specs.Ranges.{inRanges}
 use Rattle.panel.proofs.InRange.{panel-parts, panel-whole}

@@ -10,8 +10,8 @@ use Rattle.lists.specs.Tests.{when_then_else_}
 use Rattle.lists.specs.Runs.{front}
 use Rattle.lists.proofs.Laws.{when-either, when-true, when-false}
 use Rattle.bits.specs.Bits.{isOn}
-use Rattle.panel.specs.declared.state.Body.{Body}
-use Rattle.panel.specs.declared.state.Panel.{Panel}
+use Rattle.panel.specs.declared.Body.{Body}
+use Rattle.panel.specs.declared.Panel.{Panel}
 use Rattle.panel.specs.State.{poweredOn, withBody, withKeys, withPins}
 use Rattle.panel.specs.Ranges.{inRanges}
 use Rattle.panel.proofs.InRange.{panel-parts, panel-whole}

@@ -7,14 +7,14 @@ use borrow.Author.Tests.{ltb-true, ltb-false}
 use lib.ListN.{length}
 use Rattle.lists.specs.Tests.{_<?_}
 use Rattle.lists.proofs.Laws.{when-true, when-false, when-either}
-use Rattle.packets.specs.declared.packet.Packet.{Packet}
+use Rattle.packets.specs.declared.Packet.{Packet}
 use Rattle.packets.specs.Packet.{contentOf}
-use Rattle.framing.specs.declared.scan.Scanned.{Scanned}
-use Rattle.verdict.specs.declared.verdict.Verdict.{Verdict}
-use Rattle.verdict.specs.declared.verdict.Verdict.the-variants as verdicts
-use Rattle.verdict.specs.declared.verdict.Reason.{Reason}
+use Rattle.framing.specs.declared.Scanned.{Scanned}
+use Rattle.verdict.specs.declared.Verdict.{Verdict}
+use Rattle.verdict.specs.declared.Verdict.the-variants as verdicts
+use Rattle.verdict.specs.declared.Reason.{Reason}
 use Rattle.verdict.specs.Verdict.{verdictOf}
-use Rattle.panel.specs.declared.state.Panel.{Panel}
+use Rattle.panel.specs.declared.Panel.{Panel}
 use Rattle.panel.specs.Ranges.{inRanges}
 use Rattle.answers.specs.declared.Check.{Check}
 use Rattle.answers.specs.declared.Answer.{Answer}

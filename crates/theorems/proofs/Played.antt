@@ -8,10 +8,10 @@ use borrow.Author.Tests.{eq-eqb}
 use lib.ListN.{length, take, drop}
 use lib.Seq.{take-at}
 use Rattle.lists.specs.Tests.{when_then_else_, _≤?_, _=?_}
-use Rattle.packets.specs.declared.packet.Packet.{Packet}
+use Rattle.packets.specs.declared.Packet.{Packet}
 use Rattle.packets.specs.Packet.{packetBytes, contentOf, composedLength, composed}
 use Rattle.packets.proofs.Bytes.{packet-length}
-use Rattle.panel.specs.declared.state.Body.{Body}
+use Rattle.panel.specs.declared.Body.{Body}
 use Rattle.picture.specs.Repaint.{changed}
 use Rattle.answers.specs.Answer.{numbersOf, isDone}
 use Rattle.listen.specs.Reply.{answerTo, errorType}

@@ -9,10 +9,10 @@ use lib.ListN.{length, getD}
 use Rattle.lists.specs.Runs.{front}
 use Rattle.lists.proofs.Laws.{when-true}
 use Rattle.packets.specs.Packet.{packetBytes}
-use Rattle.verdict.specs.declared.verdict.Reason.{Reason}
-use Rattle.packets.specs.declared.hold.Hold.{Hold}
-use Rattle.panel.specs.declared.state.Line.{Line}
-use Rattle.panel.specs.declared.state.Panel.{Panel}
+use Rattle.verdict.specs.declared.Reason.{Reason}
+use Rattle.packets.specs.declared.Hold.{Hold}
+use Rattle.panel.specs.declared.Line.{Line}
+use Rattle.panel.specs.declared.Panel.{Panel}
 use Rattle.panel.specs.State.{lineHolding, lineUnfiled}
 use Rattle.filing.specs.declared.Refusal.{Refusal}
 use Rattle.filing.specs.Filing.{Files, filed, filedIf}

@@ -6,8 +6,8 @@ use mathlib.Core.List.{List}
 use lib.ListN.{getD}
 use Rattle.lists.specs.Tests.{_=?_}
 use Rattle.lists.proofs.Laws.{when-either}
-use Rattle.panel.specs.declared.state.Settings.{Settings}
-use Rattle.panel.specs.declared.state.Body.{Body}
+use Rattle.panel.specs.declared.Settings.{Settings}
+use Rattle.panel.specs.declared.Body.{Body}
 use Rattle.panel.specs.State.{withStyle, withContrast, withBacklight, withLive, withKeys, withPins}
 use Rattle.effects.specs.Effects.{withFlash, stored, polled, rebooted, withShown, withCursor, withDials, withMasks, withWires, cleared, glyphSet, cursorAt, masksGiven, textWritten, pinSet, pinRead, liveAfter, effect}
 

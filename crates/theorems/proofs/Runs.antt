@@ -10,10 +10,10 @@ use Rattle.lists.proofs.Laws.{length-front}
 use Rattle.packets.specs.Hold.{held}
 use Rattle.framing.specs.Scan.{scan, scannedOf}
 use Rattle.framing.proofs.Bounds.{at-most-25}
-use Rattle.panel.specs.declared.state.Line.{Line}
-use Rattle.panel.specs.declared.state.Settings.{Settings}
-use Rattle.panel.specs.declared.state.Body.{Body}
-use Rattle.panel.specs.declared.state.Panel.{Panel}
+use Rattle.panel.specs.declared.Line.{Line}
+use Rattle.panel.specs.declared.Settings.{Settings}
+use Rattle.panel.specs.declared.Body.{Body}
+use Rattle.panel.specs.declared.Panel.{Panel}
 use Rattle.panel.specs.State.{poweredOn}
 use Rattle.panel.specs.Ranges.{inRanges}
 use Rattle.filing.specs.declared.Record.{Record}

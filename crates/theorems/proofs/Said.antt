@@ -14,7 +14,7 @@ use Rattle.framing.specs.Scan.{scannedOf}
 use Rattle.framing.proofs.Bounds as bounds
 use Rattle.shapes.specs.Shape.{bytes}
 use Rattle.shapes.proofs.Numbers.{word-back}
-use Rattle.panel.specs.declared.state.Panel.{Panel}
+use Rattle.panel.specs.declared.Panel.{Panel}
 use Rattle.picture.proofs.Changes.{changed-short}
 use Rattle.answers.specs.declared.Answer.{Answer}
 use Rattle.answers.specs.declared.Said.{Said}

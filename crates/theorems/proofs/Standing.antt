@@ -10,7 +10,7 @@ use borrow.Author.Tests.{eqb-true, lt-ltb, le-ltb, ne-eqb}
 use lib.ListN.{length, getD}
 use Rattle.lists.specs.Tests.{_=?_}
 use Rattle.lists.proofs.Laws.{when-either, when-true, when-false}
-use Rattle.panel.specs.declared.state.Panel.{Panel}
+use Rattle.panel.specs.declared.Panel.{Panel}
 use Rattle.filing.specs.Filing.{Files}
 use Rattle.picture.specs.Draw.{cellDrawn, placeOf}
 use Rattle.picture.specs.Repaint.{ListedIn}

@@ -9,17 +9,17 @@ use lib.ListN.{length, take, drop, replicate}
 use lib.Seq.{take-at}
 use Rattle.lists.specs.Tests.{when_then_else_, _=?_}
 use Rattle.lists.proofs.Laws.{when-true, when-false}
-use Rattle.packets.specs.declared.hold.Hold.{Hold}
-use Rattle.packets.specs.declared.packet.Packet.{Packet}
+use Rattle.packets.specs.declared.Hold.{Hold}
+use Rattle.packets.specs.declared.Packet.{Packet}
 use Rattle.packets.specs.Packet.{contentOf}
-use Rattle.framing.specs.declared.scan.Scanned.{Scanned}
-use Rattle.framing.specs.declared.scan.Counts.{Counts}
+use Rattle.framing.specs.declared.Scanned.{Scanned}
+use Rattle.framing.specs.declared.Counts.{Counts}
 use Rattle.framing.specs.Line.{Tally, nothingMore, packetsIn, counted, Calls}
 use Rattle.framing.specs.Line as lines
 use Rattle.framing.proofs.Theorems as framing
-use Rattle.panel.specs.declared.state.Body.{Body}
-use Rattle.panel.specs.declared.state.Line.{Line}
-use Rattle.panel.specs.declared.state.Panel.{Panel}
+use Rattle.panel.specs.declared.Body.{Body}
+use Rattle.panel.specs.declared.Line.{Line}
+use Rattle.panel.specs.declared.Panel.{Panel}
 use Rattle.panel.specs.State.{withBody, lineHolding, lineUnfiled}
 use Rattle.filing.specs.Filing.{Files, filedIf}
 use Rattle.filing.proofs.Theorems.{length-filed}

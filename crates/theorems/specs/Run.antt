@@ -5,7 +5,7 @@ use mathlib.Core.Path.{_≡_}
 use mathlib.Core.List.{List, [], _∷_}
 use lib.ListN.{length}
 use Rattle.lists.specs.Tests.{when_then_else_}
-use Rattle.panel.specs.declared.state.Panel.{Panel}
+use Rattle.panel.specs.declared.Panel.{Panel}
 use Rattle.filing.specs.declared.Record.{Record}
 use Rattle.filing.specs.Filing.{Files}
 use Rattle.picture.specs.Draw.{drawn}

@@ -4,7 +4,7 @@ use Prim.Native.Nat.{ℕ, zero, suc, _/_, _%_}
 use mathlib.Core.List.{List, [], _∷_}
 use lib.ListN.{take, replicate}
 use Rattle.packets.specs.Hold.{held}
-use Rattle.panel.specs.declared.state.Panel.{Panel}
+use Rattle.panel.specs.declared.Panel.{Panel}
 use Rattle.answers.specs.Answer.{numbersOf}
 use Rattle.linecall.specs.Line.{lent, lineSaid, lineList, lineReply}
 

@@ -13,9 +13,9 @@ use Rattle.lists.proofs.Laws.{when-either}
 use Rattle.table.specs.declared.Row.{Row}
 use Rattle.table.specs.declared.Rule.{Rule}
 use Rattle.table.specs.declared.Rule.the-variants.{Free, UpTo, Glyph, Address, Place, Reboot, Pin}
-use Rattle.verdict.specs.declared.verdict.Reason.the-variants.{UnknownCommand, LengthNotAllowed, DataOutOfRange}
-use Rattle.verdict.specs.declared.verdict.Verdict.{Verdict}
-use Rattle.verdict.specs.declared.verdict.Verdict.the-variants.{Allowed, Refused}
+use Rattle.verdict.specs.declared.Reason.the-variants.{UnknownCommand, LengthNotAllowed, DataOutOfRange}
+use Rattle.verdict.specs.declared.Verdict.{Verdict}
+use Rattle.verdict.specs.declared.Verdict.the-variants.{Allowed, Refused}
 use Rattle.table.specs.Table.{table, lookUp}
 use Rattle.verdict.specs.Verdict.{firstOut, wholeVerdict, verdictBy, reasonNumber, Rules}
 

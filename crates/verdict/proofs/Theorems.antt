@@ -10,9 +10,9 @@ use Rattle.lists.specs.Promise.{Determined}
 use Rattle.lists.proofs.Theorems.{one}
 use Rattle.lists.proofs.Firsts.{found-holds, none-before}
 use Rattle.table.specs.declared.Rule.{Rule}
-use Rattle.verdict.specs.declared.verdict.Reason.{Reason}
-use Rattle.verdict.specs.declared.verdict.Reason.the-variants.{DataOutOfRange}
-use Rattle.verdict.specs.declared.verdict.Verdict.the-variants.{Refused}
+use Rattle.verdict.specs.declared.Reason.{Reason}
+use Rattle.verdict.specs.declared.Reason.the-variants.{DataOutOfRange}
+use Rattle.verdict.specs.declared.Verdict.the-variants.{Refused}
 use Rattle.table.specs.Table.{table, lookUp}
 use Rattle.verdict.specs.Verdict.{inRange, firstOut, Rules}
 use Rattle.table.proofs.Rows.{longest-22}

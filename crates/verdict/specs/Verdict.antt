@@ -9,10 +9,10 @@ use Rattle.lists.specs.First.{firstBelow}
 use Rattle.table.specs.declared.Row.{Row}
 use Rattle.table.specs.declared.Rule.{Rule}
 use Rattle.table.specs.declared.Rule.the-variants.{Free, UpTo, Glyph, Address, Place, Reboot, Pin}
-use Rattle.verdict.specs.declared.verdict.Reason.{Reason}
-use Rattle.verdict.specs.declared.verdict.Reason.the-variants.{UnknownCommand, LengthNotAllowed, DataOutOfRange, PastColumn19, NotTheReboot}
-use Rattle.verdict.specs.declared.verdict.Verdict.{Verdict}
-use Rattle.verdict.specs.declared.verdict.Verdict.the-variants.{Allowed, Refused}
+use Rattle.verdict.specs.declared.Reason.{Reason}
+use Rattle.verdict.specs.declared.Reason.the-variants.{UnknownCommand, LengthNotAllowed, DataOutOfRange, PastColumn19, NotTheReboot}
+use Rattle.verdict.specs.declared.Verdict.{Verdict}
+use Rattle.verdict.specs.declared.Verdict.the-variants.{Allowed, Refused}
 use Rattle.table.specs.Table.{table, lookUp, configAllowed}
 
 -- whether the data byte at index i is in its range, by the column "data allowed"

@@ -1,6 +1,6 @@
 use Prim.Native.Nat.{ℕ}
 use mathlib.Core.Path.{_∙_, ap}
-use Rattle.panel.specs.declared.state.Body.{Body}
+use Rattle.panel.specs.declared.Body.{Body}
 use Rattle.answers.specs.declared.Numbers.{Numbers}
 use Rattle.answers.specs.Answer.{numbersOf}
 use Rattle.statebytes.specs.State.{stateWith}

@@ -4,7 +4,7 @@ use lib.ListN.{length, length-take}
 use borrow.Author.Needs.{length-unmapped}
 use borrow.Author.Tests.{lt-ltb, le-ltb}
 use Rattle.lists.proofs.Laws.{when-true, when-false, take-limited}
-use Rattle.verdict.specs.declared.verdict.Verdict.the-variants as verdicts
+use Rattle.verdict.specs.declared.Verdict.the-variants as verdicts
 use Rattle.verdict.specs.Verdict.{verdictOf}
 use Rattle.packets.specs.Packet.{contentOf}
 use Rattle.listen.specs.Reply.{ruling, answerTo}

@@ -1,5 +1,5 @@
 use mathlib.Core.Path.{_∙_, ap}
-use Rattle.packets.specs.declared.packet.Packet.{Packet}
+use Rattle.packets.specs.declared.Packet.{Packet}
 use Rattle.perform.specs.Commands.{carried}
 use Rattle.perform.specs.Perform.{replyLength, replyWritten}
 use borrow.Author.Needs.{needs}

@@ -2,7 +2,7 @@ use Prim.Native.Nat.{ℕ, _+_}
 use mathlib.Core.Path.{_≡_, refl, _∙_, ap}
 use mathlib.Core.List.{List, _∷_}
 use Rattle.packets.specs.Packet.{packetOf}
-use Rattle.panel.specs.declared.state.Shown.{Shown}
+use Rattle.panel.specs.declared.Shown.{Shown}
 use Rattle.glyphs.specs.Glyphs.{eightFrom}
 use Rattle.lists.proofs.Laws.{when-either}
 use borrow.Author.Tests.{ne-eqb}

@@ -2,7 +2,7 @@ use mathlib.Core.Path.{sym, _∙_, ap}
 use borrow.Author.Tests.{eq-eqb, ne-eqb}
 use Rattle.lists.proofs.Laws.{when-true, when-false}
 use Rattle.shapes.specs.Shape.{value}
-use Rattle.panel.specs.declared.state.Panel.{Panel}
+use Rattle.panel.specs.declared.Panel.{Panel}
 use Rattle.statebytes.specs.Layout.{bodyFrom}
 use Rattle.statebytes.specs.State.{stateSize, panelOf, bodyReadOf}
 use borrow.Author.Needs.{needs}

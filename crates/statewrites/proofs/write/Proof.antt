@@ -7,7 +7,7 @@ use borrow.Author.Tests.{eq-eqb, ne-eqb}
 use Rattle.lists.proofs.Laws.{when-true, when-false}
 use Rattle.shapes.specs.Shape.{laid, Sized, Lays}
 use Rattle.shapes.proofs.Laws.{laid-whole, laid-all}
-use Rattle.panel.specs.declared.state.Panel.{Panel}
+use Rattle.panel.specs.declared.Panel.{Panel}
 use Rattle.statebytes.specs.Layout.{lineShape, lineParts, bodyShape, bodyParts, bodyPlace, panelShape, panelParts}
 use Rattle.statebytes.specs.State.{stateSize, bytesOf, stateWith, lineWith, WritesLine}
 use Rattle.statebytes.proofs.Theorems.{line-sized}

@@ -49,24 +49,24 @@ use denote.Triple.Entry.{onEntry}
 use denote.Triple.Spec.{Meets, tripleOf}
 use denote.Triple.Table.{entered, cited}
 use denote.Triple.Walked.{Stays, gave-slice, stay-dropped, walkOf, ends-at, goes-gave-slice, goes-dropped}
-use Rattle.panel.specs.declared.state.Panel.{Panel}
+use Rattle.panel.specs.declared.Panel.{Panel}
 use Rattle.filing.specs.declared.Record.{Record}
 use Rattle.answers.specs.declared.Said.{Said}
 use Rattle.cases.specs.declared.value.Called.{Called}
 use Rattle.register.proofs.Parts.{copied-part}
 use Rattle.register.proofs.Walks.{in-order, span, frees-all, copied, sets, learns, meets}
-use Rattle.panel.proofs.state.Panel as P
-use Rattle.panel.proofs.state.Panel.Laws as P′
+use Rattle.panel.proofs.Panel as P
+use Rattle.panel.proofs.Panel.Laws as P′
 use Rattle.filing.proofs.Record as T
 use Rattle.filing.proofs.Record.Laws as T′
 use Rattle.answers.proofs.Said as S
 use Rattle.answers.proofs.Said.Laws as S′
 use Rattle.cases.proofs.value.Called as O
 use Rattle.cases.proofs.value.Called.Laws as O′
-use Rattle.calls.proofs.line.line as line
-use Rattle.calls.proofs.line.line.Symbol as line-def
-use Rattle.calls.proofs.line.line.Symbol.{name as #line}
-use Rattle.calls.proofs.line.line.Met as line-thm
+use Rattle.calls.proofs.line as line
+use Rattle.calls.proofs.line.Symbol as line-def
+use Rattle.calls.proofs.line.Symbol.{name as #line}
+use Rattle.calls.proofs.line.Met as line-thm
 use Rattle.cases.proofs.value.line_on.Key.{name as #line-on}
 use Rattle.cases.proofs.value.line_on as line-on
 use Rattle.cases.proofs.value.line_on.Statement as stated
@@ -347,4 +347,4 @@ line-on-spec 𝓤 H 𝓜 𝓖 𝓡 =
     entered 𝓤 H (tripleOf 𝓤 H (𝓖 .A) line-on.signature (line-on.spec 𝓤 H (𝓖 .A) (𝓜 .mem) (𝓡 .run)))
     (tables 𝓤 H 𝓜 𝓡 code.env .C) (tables 𝓤 H 𝓜 𝓡 code.env .Λ) #line-on code.function (code.unfolded 𝓤 H 𝓜 𝓡)
     (line-on-meets 𝓤 H (𝓖 .A) (givenOf 𝓤 H 𝓜 𝓖) (𝓜 .mem) (𝓡 .run) (tablesOf 𝓤 H 𝓜 (tables 𝓤 H 𝓜 𝓡 code.env))
-    (cited 𝓤 H (Line 𝓤 H (𝓖 .A) (𝓜 .mem) (𝓡 .run)) 𝓜 𝓡 code.env #line line-def.routine code.calls-calls·line·line (line-thm.met 𝓤 H 𝓜 𝓖 𝓡)))
+    (cited 𝓤 H (Line 𝓤 H (𝓖 .A) (𝓜 .mem) (𝓡 .run)) 𝓜 𝓡 code.env #line line-def.routine code.calls-calls·line (line-thm.met 𝓤 H 𝓜 𝓖 𝓡)))

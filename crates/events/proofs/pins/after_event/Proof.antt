@@ -4,7 +4,7 @@ use mathlib.Core.Bool.{Bool, true, false}
 use native.Mathlib.Omega.{arith}
 use borrow.Author.Tests.{lt-ltb}
 use Rattle.lists.proofs.Laws.{when-true}
-use Rattle.panel.specs.declared.state.Pins.{Pins}
+use Rattle.panel.specs.declared.Pins.{Pins}
 use Rattle.events.specs.Pins.{pinMoved}
 use Rattle.events.proofs.Compared.{same, unlike}
 use borrow.Author.Needs.{needs}

@@ -1,6 +1,0 @@
-use borrow.Author.Needs.{needs}
-use Rattle.packets.proofs.hold.empty.Statement.{statement}
-use Rattle.packets.proofs.hold.empty.Tie as tie
-
-pub empty-spec : {M : Type 1} → statement M
-empty-spec = tie.close (tie.spec (λ c. search needs))
