@@ -8,8 +8,10 @@ use kept::going;
 use libc::STDERR_FILENO;
 use libc::STDOUT_FILENO;
 use session::sizes::FAULTS;
+use session::sizes::FONT;
 use session::sizes::LIST;
 use session::sizes::PICTURE;
+use session::sizes::PIECE;
 use session::sizes::REPLY;
 use session::sizes::SAID;
 use session::sizes::STATE;
@@ -30,7 +32,13 @@ fn send(reply: &[u8], length: usize) -> bool {
 }
 
 // What a call replies and draws; the session ends where the reply cannot be written.
-fn told(s: Session, drawn: bool, picture: &[u8], list: &[u8], reply: &[u8]) -> Session {
+fn told(
+    s: Session,
+    drawn: bool,
+    picture: &[u8; PICTURE],
+    list: &[u8; LIST],
+    reply: &[u8; REPLY],
+) -> Session {
     if s.over {
         return s;
     }
@@ -51,14 +59,14 @@ fn told(s: Session, drawn: bool, picture: &[u8], list: &[u8], reply: &[u8]) -> S
 // The steps of a session, to its end.
 fn hear(
     drawn: bool,
-    piece: &mut [u8],
-    state: &mut [u8],
-    picture: &mut [u8],
-    font: &[u8],
-    list: &mut [u8],
-    reply: &mut [u8],
-    faults: &mut [u8],
-    said: &mut [u8; 16],
+    piece: &mut [u8; PIECE],
+    state: &mut [u8; STATE],
+    picture: &mut [u8; PICTURE],
+    font: &[u8; FONT],
+    list: &mut [u8; LIST],
+    reply: &mut [u8; REPLY],
+    faults: &mut [u8; FAULTS],
+    said: &mut [u8; SAID],
 ) -> Session {
     let mut s = kept::started();
     let mut steps: u64 = 0;

@@ -4,8 +4,10 @@ use kept::going;
 use libc::STDERR_FILENO;
 use libc::STDOUT_FILENO;
 use session::sizes::FAULTS;
+use session::sizes::FONT;
 use session::sizes::LIST;
 use session::sizes::PICTURE;
+use session::sizes::PIECE;
 use session::sizes::REPLY;
 use session::sizes::SAID;
 use session::sizes::STATE;
@@ -41,14 +43,14 @@ fn told(s: Session) -> Session {
 
 // The steps of a session, to its end.
 fn hear(
-    piece: &mut [u8],
-    state: &mut [u8],
-    picture: &mut [u8],
-    font: &[u8],
-    list: &mut [u8],
-    reply: &mut [u8],
-    faults: &mut [u8],
-    said: &mut [u8; 16],
+    piece: &mut [u8; PIECE],
+    state: &mut [u8; STATE],
+    picture: &mut [u8; PICTURE],
+    font: &[u8; FONT],
+    list: &mut [u8; LIST],
+    reply: &mut [u8; REPLY],
+    faults: &mut [u8; FAULTS],
+    said: &mut [u8; SAID],
 ) -> Session {
     let mut s = kept::started();
     let mut steps: u64 = 0;
@@ -60,7 +62,7 @@ fn hear(
 }
 
 // A failed read is told on standard error, and the last line is written, unless output was lost.
-fn finish(s: Session, state: &[u8]) {
+fn finish(s: Session, state: &[u8; STATE]) {
     if s.failed {
         io::write_all(STDERR_FILENO, b"line: standard input cannot be read\n");
     }

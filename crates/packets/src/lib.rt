@@ -85,15 +85,15 @@ pub fn compose(out: &mut [u8], kind: u8, content: &[u8]) -> usize
     if out.len() != REPLY {
         return 0;
     }
-    let n = content.len();
-    if CONTENT < n {
+    let size = content.len();
+    if CONTENT < size {
         return 0;
     }
     out[0] = kind;
-    out[1] = n as u8;
+    out[1] = size as u8;
     lists::paste(out, 2, content);
-    let sum = fcs::checksum(&out[..n + 2]);
-    out[n + 2] = (sum % 256) as u8;
-    out[n + 3] = (sum / 256) as u8;
-    n + 4
+    let sum = fcs::checksum(&out[..size + 2]);
+    out[size + 2] = (sum % 256) as u8;
+    out[size + 3] = (sum / 256) as u8;
+    size + 4
 }

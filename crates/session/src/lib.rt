@@ -6,6 +6,14 @@ use kept::with_call;
 use kept::with_piece;
 use libc::STDIN_FILENO;
 use saidreads::told;
+use sizes::FAULTS;
+use sizes::FONT;
+use sizes::LIST;
+use sizes::PICTURE;
+use sizes::PIECE;
+use sizes::REPLY;
+use sizes::SAID;
+use sizes::STATE;
 use statebytes::places::COUNT;
 use tally::WAITING;
 
@@ -13,7 +21,7 @@ pub mod sizes;
 
 // Reads a piece where the last call waited: a read brings what has arrived and does not wait for a full buffer. A failed read
 // is not taken for the end of the input.
-fn supplied(s: Session, piece: &mut [u8]) -> Session {
+fn supplied(s: Session, piece: &mut [u8; PIECE]) -> Session {
     if s.call.number != WAITING {
         return s;
     }
@@ -32,13 +40,13 @@ fn held(state: &[u8]) -> u64
 pub fn call(
     s: Session,
     piece: &[u8],
-    state: &mut [u8],
-    picture: &mut [u8],
-    font: &[u8],
-    list: &mut [u8],
-    reply: &mut [u8],
-    faults: &mut [u8],
-    said: &mut [u8; 16],
+    state: &mut [u8; STATE],
+    picture: &mut [u8; PICTURE],
+    font: &[u8; FONT],
+    list: &mut [u8; LIST],
+    reply: &mut [u8; REPLY],
+    faults: &mut [u8; FAULTS],
+    said: &mut [u8; SAID],
 ) -> Session
     ensures { λ r. ⌜ CallsOn s (now (piece .entry)) (now (font .entry)) (now (state .entry)) (now (picture .entry)) (now (list .entry)) (now (reply .entry)) (now (faults .entry)) r (now (state .exit)) (now (picture .exit)) (now (list .exit)) (now (reply .exit)) (now (faults .exit)) (now (said .exit)) ⌝ }
 {
@@ -62,14 +70,14 @@ pub fn call(
 // is followed by one that goes on behind it, so that a piece is called on until it waits.
 pub fn step(
     s: Session,
-    piece: &mut [u8],
-    state: &mut [u8],
-    picture: &mut [u8],
-    font: &[u8],
-    list: &mut [u8],
-    reply: &mut [u8],
-    faults: &mut [u8],
-    said: &mut [u8; 16],
+    piece: &mut [u8; PIECE],
+    state: &mut [u8; STATE],
+    picture: &mut [u8; PICTURE],
+    font: &[u8; FONT],
+    list: &mut [u8; LIST],
+    reply: &mut [u8; REPLY],
+    faults: &mut [u8; FAULTS],
+    said: &mut [u8; SAID],
 ) -> Session {
     let t = supplied(s, piece);
     if t.over {

@@ -1,4 +1,6 @@
 // The sizes of what a program lends to a call.
+pub const PIECE: usize = listen::PIECE;
+
 pub const STATE: usize = statebytes::places::SIZE;
 
 pub const PICTURE: usize = picture::repaint::PICTURE;

@@ -1,42 +1,31 @@
 use Prim.Native.Nat.{_-_}
-use mathlib.Core.Path.{_≡_, sym, _∙_}
+use mathlib.Core.Path.{sym, _∙_}
 use native.Mathlib.Omega.{arith}
-use lib.ListN.{length}
 use borrow.Author.Needs.{needs}
 use Rattle.tally.specs.Sums.{largest}
 use Rattle.kept.proofs.Laws.{countable}
 use Rattle.emulator.proofs.hear.Statement.{statement}
 use Rattle.emulator.proofs.hear.Tie as tie
 
--- no buffer's size changes
 abbrev Inv-loop : tie.InvT-loop
-Inv-loop drawn piece₀ state₀ picture₀ font list₀ reply₀ faults₀ said₀ s₀ steps₀ piece state picture list reply faults said s steps =
-    (length piece ≡ length piece₀) × (length state ≡ length state₀) × (length picture ≡ length picture₀)
-    × (length list ≡ length list₀) × (length reply ≡ length reply₀) × (length faults ≡ length faults₀)
+Inv-loop drawn piece₀ state₀ picture₀ font list₀ reply₀ faults₀ said₀ s₀ steps₀ piece state picture list reply faults said s steps = Unit {0}
 
 abbrev μ-loop : tie.MeasureT-loop
 μ-loop drawn piece₀ state₀ picture₀ font list₀ reply₀ faults₀ said₀ s₀ steps₀ piece state picture list reply faults said s steps = largest - steps
 
 add-steps : tie.Need-add-steps Inv-loop μ-loop
 add-steps c =
-    let tested = c .before .before .before .before .before .before .before .before .before .before .before .before .before .before .before .before .before .before .before .before .before .before .before .before in
+    let tested = c .before .before .before .before .before .before .before .before .before .before .before .before in
     let loop = tested .before .before .loop in
     let can = countable (loop .steps) (loop .s .over) (sym (tested .before .going .ensures) ∙ tested .if1 .taken) in
     omega arith
 
 loop-less : tie.Need-loop-less Inv-loop μ-loop
 loop-less c =
-    let tested = c .before .before .before .before .before .before .before .before .before .before .before .before .before .before .before .before .before .before .before .before .before .before .before .before in
+    let tested = c .before .before .before .before .before .before .before .before .before .before .before .before in
     let loop = tested .before .before .loop in
     let can = countable (loop .steps) (loop .s .over) (sym (tested .before .going .ensures) ∙ tested .if1 .taken) in
     omega arith
-
-loop-again : tie.Need-loop-again Inv-loop μ-loop
-loop-again c =
-    let made = c .before .before .before .before .before .before .before .before .before .before .before .before .before .before .before .before in
-    let i = made .before .before .before .before .before .before .before .before .before .before .loop .inv in
-    let k = made .step .kept .1 in
-    (k .0 ∙ i .0, k .1 .0 ∙ i .1, k .1 .1 .0 ∙ i .2, k .1 .1 .1 .1 .0 ∙ i .3, k .1 .1 .1 .1 .1 .0 ∙ i .4, k .1 .1 .1 .1 .1 .1 .0 ∙ i .5)
 
 pub hear-spec : {M : Type 1} → statement M
 hear-spec =
@@ -51,11 +40,5 @@ hear-spec =
     (λ c κs. search needs)
     add-steps
     loop-less
-    loop-again
-    (λ c. search needs)
-    (λ c. search needs)
-    (λ c. search needs)
-    (λ c. search needs)
-    (λ c. search needs)
     (λ c. search needs)
     (λ c. search needs))

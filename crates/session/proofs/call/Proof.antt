@@ -7,14 +7,15 @@ use Rattle.session.proofs.call.Tie as tie
 
 returns : tie.Need-returns
 returns c =
-    let a = c .before .before .before .before .before .before .before .before .before .before .before .before .before .before .before .before .before .before .before .before .before .before .before .before .before .before .before .before .before .before .before .before .args in
-    let made = c .before .before .before .before .before .before .before .before .before .before .before .before .before .line in
-    let end = c .before .before .before .before .before .before .before .before .before .before .before .before .before .before .before .before .before .before .before .before .before .before .at-most .ensures in
-    let start = c .before .before .before .before .before .before .before .before .before .before .before .before .before .before .before .before .before .before .before .before .before .at-most2 .ensures in
+    let made = c .before .before .before in
+    let bounded = made .before .before .before .before .before .before .before .before .before in
+    let a = bounded .before .before .before .before .before .before .args in
+    let end = bounded .before .at-most .ensures in
+    let start = bounded .at-most2 .ensures in
     record {
-      number = made .result;
-      line = rw (← end, ← start) (made .ensures);
-      session = c .with-call .ensures ∙ λ i. withCall (a .s) ((start ∙ ap (min (a .s .at)) end) i) (c .before .before .before .before .before .before .before .before .before .before .before .before .before .before .before .before .before .before .before .before .before .before .before .held .ensures i) (c .before .told .ensures i);
+      number = made .line .result;
+      line = rw (← end, ← start) (made .line .ensures);
+      session = c .with-call .ensures ∙ λ i. withCall (a .s) ((start ∙ ap (min (a .s .at)) end) i) (bounded .before .before .held .ensures i) (c .before .told .ensures i);
     }
 
 pub call-spec : {M : Type 1} → statement M
@@ -30,9 +31,4 @@ call-spec =
     (λ c κs. search needs)
     (λ c κs. search needs)
     (λ c κs. search needs)
-    (λ c. search needs)
-    (λ c. search needs)
-    (λ c. search needs)
-    (λ c. search needs)
-    (λ c. search needs)
     returns)
