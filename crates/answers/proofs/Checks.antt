@@ -7,7 +7,6 @@ use native.Mathlib.Omega.{arith}
 use Rattle.lists.specs.Tests.{when_then_else_}
 use Rattle.lists.proofs.Laws.{when-true, when-false}
 use Rattle.panel.specs.declared.Panel.{Panel}
-use Rattle.panel.specs.Ranges.{inRanges}
 use Rattle.answers.specs.declared.Check.{Check}
 use Rattle.answers.specs.declared.Check.the-variants.{StateRange, PieceSize, PictureSize, FontSize, ListSize, ReplySize, RegisterSize, KeyOrPin, KeyAsTold}
 use Rattle.answers.specs.declared.Checked.{Checked}
@@ -99,8 +98,8 @@ Rising n (test _ c ∷ tests) = (n < checkNumber c) × Rising (checkNumber c) te
 
 -- a call that is decided by its checks
 module _ (p : Panel) (tests : List Test) (accepted : Said) (r : Said) (e : r ≡ decided tests (refusedCall p) accepted) where
-  pub call-in-range : (Pass tests → inRanges (accepted .panel) ≡ true) → inRanges p ≡ true → inRanges (r .panel) ≡ true
-  call-in-range g h = either-way tests (λ c f. rw (e ∙ refused-by f _ _) h) (λ q. rw (e ∙ accepted-by tests q _ _) (g q))
+  pub call-keeps : (P : Panel → Type 0) → (Pass tests → P (accepted .panel)) → P p → P (r .panel)
+  call-keeps P g h = either-way tests (λ c f. rw (e ∙ refused-by f _ _) h) (λ q. rw (e ∙ accepted-by tests q _ _) (g q))
 
   pub call-refused : numbersOf (accepted .answer) .number < 10 → 10 ≤ numbersOf (r .answer) .number → (c : Check) × First tests c
   call-refused l h = either-way tests (λ c f. (c, f)) (λ q. absurd (omega (arith, rw (e ∙ accepted-by tests q _ _) at h)))

@@ -84,7 +84,7 @@ fn hear(
 ) -> Spoken
     ensures { λ r. ⌜ HearsAll p (lent (now (piece .entry)) (now (picture .entry)) (now (font .entry)) (now (list .entry)) (now (reply .entry)) records) r (now (picture .exit)) (now (list .exit)) (now (reply .exit)) ⌝ }
 {
-    let in_ranges = panel::ranges::in_ranges(p);
+    let in_ranges = ranges::in_ranges(p);
     let sizes = Sizes {
         picture: picture.len(),
         font: font.len(),

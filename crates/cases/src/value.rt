@@ -38,13 +38,7 @@ fn line_on(
 fn bytes_said(s: Said) -> [u8; SAID] {
     let mut said = [0u8; SAID];
     let answer = s.answer;
-    saidbytes::write(
-        &mut said,
-        answers::told(answer),
-        s.counts,
-        s.reply,
-        s.listed,
-    );
+    saidbytes::write(&mut said, answer, s.counts, s.reply, s.listed);
     said
 }
 

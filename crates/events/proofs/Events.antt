@@ -8,7 +8,7 @@ use Rattle.bits.specs.Bits.{isOn, withBit}
 use Rattle.bits.proofs.Laws.{with-bit-below, without-bit-at-most, with-bit-on, without-bit-off, with-bit-leaves, without-bit-leaves}
 use Rattle.panel.specs.declared.Keys.{Keys}
 use Rattle.panel.specs.declared.Pins.{Pins}
-use Rattle.panel.proofs.InRange.{KeysParts, PinsParts}
+use Rattle.ranges.proofs.InRange.{KeysParts, PinsParts}
 use Rattle.events.specs.Keys.{keyEvent, asTold}
 use Rattle.events.specs.Pins.{pinMoved}
 use Rattle.events.proofs.Compared.{beq-true, beq-false}

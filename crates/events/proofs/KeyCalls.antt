@@ -15,8 +15,8 @@ use Rattle.packets.proofs.Composing.{fitting}
 use Rattle.panel.specs.declared.Keys.{Keys}
 use Rattle.panel.specs.declared.Panel.{Panel}
 use Rattle.panel.specs.State.{withKeys, withBody}
-use Rattle.panel.specs.Ranges.{inRanges}
-use Rattle.panel.proofs.InRange.{panel-parts, panel-whole, keys-parts, keys-whole}
+use Rattle.ranges.specs.Ranges.{inRanges}
+use Rattle.ranges.proofs.InRange.{panel-parts, panel-whole, keys-parts, keys-whole}
 use Rattle.answers.specs.declared.Check.{Check}
 use Rattle.answers.specs.declared.Checked.the-variants.{Fails}
 use Rattle.answers.specs.declared.Said.{Said}

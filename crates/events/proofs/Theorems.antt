@@ -10,13 +10,13 @@ use Rattle.lists.proofs.Theorems.{one, and}
 use Rattle.bits.specs.Bits.{isOn}
 use Rattle.panel.specs.declared.Keys.{Keys}
 use Rattle.panel.specs.declared.Panel.{Panel}
-use Rattle.panel.specs.Ranges.{inRanges}
-use Rattle.panel.proofs.InRange.{panel-parts, panel-whole, pins-parts, pins-whole}
+use Rattle.ranges.specs.Ranges.{inRanges}
+use Rattle.ranges.proofs.InRange.{panel-parts, panel-whole, pins-parts, pins-whole}
 use Rattle.answers.specs.declared.Check.{Check}
 use Rattle.answers.specs.declared.Answer.the-variants.{CallRefused}
 use Rattle.answers.specs.declared.Said.{Said}
 use Rattle.answers.specs.Answer.{checkNumber, numbersOf, refusedCall}
-use Rattle.answers.proofs.Checks.{Rising, refused-by, call-in-range, call-unchanged}
+use Rattle.answers.proofs.Checks.{Rising, refused-by, call-keeps, call-unchanged}
 use Rattle.events.specs.Keys.{keyTests, keyAccepted, Presses}
 use Rattle.events.specs.Pins.{pinTests, pinAccepted, Moves}
 use Rattle.events.proofs.Events.{moved-in-range, press-follows, release-follows, others-stay}
@@ -37,7 +37,7 @@ module _ (p : Panel) (number : ℕ) (down : Bool) (reply : List ℕ) (r : Said) 
   -- A key call takes a state in its ranges to one in its ranges.
   pub key-stays-in-range : inRanges p ≡ true → inRanges (r .panel) ≡ true
   key-stays-in-range h =
-      call-in-range p (keyChecks p number down reply) (keyAccepted p number down) r (pressed .0) (λ q. key-in-range p number down reply q) h
+      call-keeps p (keyChecks p number down reply) (keyAccepted p number down) r (pressed .0) (λ (q : Panel). inRanges q ≡ true) (λ q. key-in-range p number down reply q) h
 
   -- A key call that is refused by number leaves the panel and the reply buffer as they came, and counts nothing.
   pub refused-key-changes-nothing : (check : Check) → r .answer ≡ CallRefused check → (r ≡ refusedCall p check) × (reply′ ≡ reply)
@@ -72,7 +72,7 @@ module _ (p : Panel) (number : ℕ) (high : Bool) (r : Said) (moved : Moves p nu
   pub pin-stays-in-range : inRanges p ≡ true → inRanges (r .panel) ≡ true
   pin-stays-in-range h =
       let b = panel-parts p h in
-      call-in-range p (pinTests (inRanges p) number) (pinAccepted p number high) r moved
+      call-keeps p (pinTests (inRanges p) number) (pinAccepted p number high) r moved (λ (q : Panel). inRanges q ≡ true)
       (λ q. panel-whole _ record { count = b .count; live = b .live; boot = b .boot; keys = b .keys; pins = pins-whole _ (moved-in-range number (omega (arith, leb-true number 4 (q .1 .0))) (p .body .pins) (pins-parts _ (b .pins)) _ high) })
       h
 

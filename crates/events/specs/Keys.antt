@@ -7,12 +7,12 @@ use lib.ListN.{length, getD}
 use Rattle.lists.specs.Tests.{when_then_else_, _≤?_, _=?_}
 use Rattle.lists.specs.Runs.{front}
 use Rattle.bits.specs.Bits.{isOn, withBit, withoutBit}
-use Rattle.packets.specs.Packet.{packetBytes, composedLength, composed}
+use Rattle.packets.specs.Packet.{replySize, packetBytes, composedLength, composed}
 use Rattle.panel.specs.declared.Masks.{Masks}
 use Rattle.panel.specs.declared.Keys.{Keys}
 use Rattle.panel.specs.declared.Panel.{Panel}
 use Rattle.panel.specs.State.{withKeys, withBody}
-use Rattle.panel.specs.Ranges.{inRanges}
+use Rattle.ranges.specs.Ranges.{inRanges}
 use Rattle.answers.specs.declared.Check.{Check}
 use Rattle.answers.specs.declared.Check.the-variants.{StateRange, ReplySize, KeyOrPin, KeyAsTold}
 use Rattle.answers.specs.declared.Said.{Said}
@@ -52,7 +52,7 @@ asTold false number k = not (isOn (k .down) number)
 abbrev pub keyTests : Bool → ℕ → ℕ → Bool → Keys → List Test
 keyTests inRange reply number down keys =
     test inRange StateRange
-    ∷ test (reply =? 26) ReplySize
+    ∷ test (reply =? replySize) ReplySize
     ∷ test (number ≤? 5) KeyOrPin
     ∷ test (not (asTold down number keys)) KeyAsTold
     ∷ []

@@ -8,7 +8,7 @@ use Rattle.bits.specs.Bits.{isOn, withBit, withoutBit}
 use Rattle.panel.specs.declared.Pins.{Pins}
 use Rattle.panel.specs.declared.Panel.{Panel}
 use Rattle.panel.specs.State.{withPins, withBody}
-use Rattle.panel.specs.Ranges.{inRanges}
+use Rattle.ranges.specs.Ranges.{inRanges}
 use Rattle.answers.specs.declared.Check.the-variants.{StateRange, KeyOrPin}
 use Rattle.answers.specs.declared.Said.{Said}
 use Rattle.answers.specs.Answer.{refusedCall, acceptedCall}

@@ -72,11 +72,7 @@ fn report(mask: u8, number: u8, down: bool, reply: &mut [u8]) -> usize
 pub fn key(mut p: Panel, number: u32, down: bool, reply: &mut [u8]) -> Said
     ensures { λ r. ⌜ Presses p number down (now (reply .entry)) r (now (reply .exit)) ⌝ }
 {
-    let state = also(
-        Checked::Passes,
-        panel::ranges::in_ranges(p),
-        Check::StateRange,
-    );
+    let state = also(Checked::Passes, ranges::in_ranges(p), Check::StateRange);
     let room = also(state, reply.len() == REPLY, Check::ReplySize);
     let known = also(room, number <= 5, Check::KeyOrPin);
     match also(known, !as_told(p.body.keys, number, down), Check::KeyAsTold) {

@@ -37,11 +37,7 @@ fn after_event(p: Pins, number: u8, high: bool) -> Pins
 pub fn pin(mut p: Panel, number: u32, high: bool) -> Said
     ensures { λ r. ⌜ Moves p number high r ⌝ }
 {
-    let state = also(
-        Checked::Passes,
-        panel::ranges::in_ranges(p),
-        Check::StateRange,
-    );
+    let state = also(Checked::Passes, ranges::in_ranges(p), Check::StateRange);
     match also(state, number <= 4, Check::KeyOrPin) {
         Checked::Fails(check) => nothing_taken(p, Answer::CallRefused(check), 0),
         Checked::Passes => {

@@ -1,12 +1,11 @@
 -- How a line call over bytes comes out, put together from the promises of what it calls.
-use Prim.Native.Nat.{ℕ}
+use Prim.Native.Nat.{ℕ, _<_}
 use mathlib.Core.Path.{_≡_, refl, sym, _∙_, ap}
 use mathlib.Core.Bool.{Bool, true, false}
 use mathlib.Core.List.{List}
-use borrow.Author.Tests.{eqb-true, ne-eqb, le-ltb}
+use borrow.Author.Tests.{eqb-true, ne-eqb, lt-ltb, le-ltb}
 use native.Mathlib.Omega.{arith}
 use lib.ListN.{length}
-use Rattle.lists.specs.Tests.{when_then_else_, _<?_}
 use Rattle.lists.proofs.Laws.{when-true, when-false}
 use Rattle.shapes.specs.Shape.{Sized, Bytes}
 use Rattle.panel.specs.declared.Panel.{Panel}
@@ -21,7 +20,7 @@ use Rattle.answers.specs.Checks.{Test, decided, checkedBy}
 use Rattle.answers.proofs.Checks.{refused-from-ten}
 use Rattle.listen.specs.declared.Heard.{Heard}
 use Rattle.listen.specs.Listen.{lineTests, HearsPiece}
-use Rattle.listen.proofs.Done.{done-number}
+use Rattle.listen.proofs.Done.{done-number, heard-number}
 use Rattle.perform.specs.Commands.{carried}
 use Rattle.perform.specs.declared.Performed.{Performed}
 use Rattle.perform.specs.Perform.{replyLength, Performs}
@@ -119,8 +118,9 @@ module _ (s : List ℕ) (l : Lent) (f : List ℕ) (passes : checkedBy (testsOn s
   turned-down-line d small sized w =
       let q = heard-as in
       let all = says-left p l (q .0) (q .1) d in
+      let below : numbersOf (h .answer) .number < 10 = rw (hears .0) (heard-number _ _) in
       let written = line-written s (eqb-true _ _ is-state) small (lineUnfiled (h .line) (filesBy (h .answer) (h .line .unfiled) f .unfiled)) sized in
-      said-of-bytes s l f is-state _ (all .0) (w .number) (w .state ∙ ap (λ (b : List ℕ). when numbersOf (h .answer) .number <? 10 then b else s) written) (all .1) (all .2) (all .3) (w .faults) (w .said)
+      said-of-bytes s l f is-state _ (all .0) (w .number) (w .state ∙ written ∙ sym (when-true _ _ _ (lt-ltb _ _ below))) (all .1) (all .2) (all .3) (w .faults) (w .said)
 
   pub carried-out-line : isDone (h .answer) ≡ true → {m : ℕ} {s′ p′ l′ r′ said′ : List ℕ} → CarriesOut s h (l .picture) (l .font) (l .list) reply₁ m s′ p′ l′ r′ said′
       → LineBytes s l f m s′ p′ l′ r′ f said′

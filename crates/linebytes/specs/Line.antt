@@ -5,7 +5,7 @@ use mathlib.Core.List.{List}
 use Rattle.lists.specs.Tests.{when_then_else_, _<?_, _=?_}
 use Rattle.panel.specs.declared.Panel.{Panel}
 use Rattle.panel.specs.State.{lineUnfiled}
-use Rattle.filing.specs.Filing.{Files, filedIf}
+use Rattle.filing.specs.Filing.{registerRecords, Files, filedIf}
 use Rattle.answers.specs.declared.Answer.{Answer}
 use Rattle.answers.specs.declared.Said.{Said}
 use Rattle.answers.specs.Answer.{numbersOf, filingOf, withUnfiled}
@@ -20,7 +20,7 @@ use Rattle.saidbytes.specs.Says.{saidBytes, numberOf, bytesSaid, noState}
 
 -- so many bytes are a register's 64 records; others are none
 unfoldable pub recordsIn : ℕ → ℕ
-recordsIn size = when size =? registerSize then 64 else 0
+recordsIn size = when size =? registerSize then registerRecords else 0
 
 -- the register and the unfiled number after an answer: "A refused packet is filed in the register."
 abbrev pub filesBy : Answer → ℕ → List ℕ → Files
@@ -55,7 +55,7 @@ FilesBytes answer unfiled faults r faults′ = (r ≡ filesBy answer unfiled fau
 -- what `turned_down` promises: a call that performs nothing changes the line's part alone
 pub record TurnsDown (s : List ℕ) (h : Heard) (f : List ℕ) (n : ℕ) (s′ f′ said′ : List ℕ) : Type 0 where
   pub number : n ≡ numbersOf (h .answer) .number
-  pub state : s′ ≡ (when numbersOf (h .answer) .number <? 10 then lineWith s (lineUnfiled (h .line) (filesBy (h .answer) (h .line .unfiled) f .unfiled)) else s)
+  pub state : s′ ≡ lineWith s (lineUnfiled (h .line) (filesBy (h .answer) (h .line .unfiled) f .unfiled))
   pub faults : f′ ≡ faultsAfter (h .answer) (h .line .unfiled) f
   pub said : said′ ≡ saidBytes (numbersOf (h .answer)) (h .counts) (h .reply) 0
 

@@ -10,6 +10,7 @@ use listen::Heard;
 use listen::Sizes;
 use panel::Line;
 use registerbytes::REGISTER;
+use saidbytes::SAID;
 
 // How many records so many bytes are; 0 where they are no register.
 fn records_in(size: usize) -> usize
@@ -33,20 +34,15 @@ fn file(faults: &mut [u8], answer: Answer, unfiled: u32) -> u32
     r.unfiled
 }
 
-// The end of a line call that performs nothing: of the state only the line's part changes, and nothing where the call is
-// refused by number.
-fn turned_down(state: &mut [u8], h: Heard, faults: &mut [u8], said: &mut [u8; 16]) -> u8
+// The end of a line call that performs nothing: of the state only the line's part changes.
+fn turned_down(state: &mut [u8], h: Heard, faults: &mut [u8], said: &mut [u8; SAID]) -> u8
     ensures { λ r. ⌜ TurnsDown (now (state .entry)) h (now (faults .entry)) r (now (state .exit)) (now (faults .exit)) (now (said .exit)) ⌝ }
 {
     let answer = h.answer;
-    let n = answers::told(answer);
     let unfiled = file(faults, answer, h.line.unfiled);
-    saidbytes::write(said, n, h.counts, h.reply, 0);
-    if n.number < 10 {
-        let line = h.line;
-        statebytes::line::write_line(state, Line { unfiled, ..line });
-    }
-    n.number
+    let line = h.line;
+    statebytes::line::write_line(state, Line { unfiled, ..line });
+    saidbytes::write(said, answer, h.counts, h.reply, 0)
 }
 
 // The end of a line call whose command is performed.
@@ -57,7 +53,7 @@ fn carried_out(
     font: &[u8],
     list: &mut [u8],
     reply: &mut [u8],
-    said: &mut [u8; 16],
+    said: &mut [u8; SAID],
 ) -> u8
     ensures { λ r. ⌜ CarriesOut (now (state .entry)) h (now (picture .entry)) (now (font .entry)) (now (list .entry)) (now (reply .entry)) r (now (state .exit)) (now (picture .exit)) (now (list .exit)) (now (reply .exit)) (now (said .exit)) ⌝ }
 {
@@ -71,9 +67,7 @@ fn carried_out(
     );
     statewrites::write(state, h.line, d.body);
     let answer = h.answer;
-    let n = answers::told(answer);
-    saidbytes::write(said, n, h.counts, d.reply, d.listed);
-    n.number
+    saidbytes::write(said, answer, h.counts, d.reply, d.listed)
 }
 
 // A piece of the line. A call that is refused by number ends before the line's part is read.
@@ -85,7 +79,7 @@ pub fn line(
     list: &mut [u8],
     reply: &mut [u8],
     faults: &mut [u8],
-    said: &mut [u8; 16],
+    said: &mut [u8; SAID],
 ) -> u8
     ensures { λ r. ⌜ LineBytes (now (state .entry)) (lent (now (piece .entry)) (now (picture .entry)) (now (font .entry)) (now (list .entry)) (now (reply .entry)) (recordsIn (length (now (faults .entry))))) (now (faults .entry)) r (now (state .exit)) (now (picture .exit)) (now (list .exit)) (now (reply .exit)) (now (faults .exit)) (now (said .exit)) ⌝ }
 {

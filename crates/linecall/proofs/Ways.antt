@@ -7,7 +7,7 @@ use lib.ListN.{length}
 use borrow.Author.Tests.{eqb-true}
 use Rattle.lists.specs.Tests.{when_then_else_}
 use Rattle.panel.specs.declared.Panel.{Panel}
-use Rattle.panel.specs.Ranges.{inRanges}
+use Rattle.ranges.specs.Ranges.{inRanges}
 use Rattle.picture.proofs.Changes.{changed-same, painted-same}
 use Rattle.picture.proofs.Sizes.{repaints-sized}
 use Rattle.answers.specs.declared.Check.{Check}

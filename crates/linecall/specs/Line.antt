@@ -8,7 +8,7 @@ use Rattle.lists.specs.Tests.{when_then_else_}
 use Rattle.lists.specs.Runs.{front}
 use Rattle.panel.specs.declared.Body.{Body}
 use Rattle.panel.specs.declared.Panel.{Panel}
-use Rattle.panel.specs.Ranges.{inRanges}
+use Rattle.ranges.specs.Ranges.{inRanges}
 use Rattle.perform.specs.Commands.{carried}
 use Rattle.picture.specs.Repaint.{changed, painted}
 use Rattle.filing.specs.declared.Record.{Record}

@@ -1,10 +1,15 @@
 -- A done answer: the call's checks passed, and nothing is replied yet.
-use Prim.Native.Nat.{ℕ}
+use Prim.Native.Nat.{ℕ, _<_}
 use mathlib.Core.Path.{_≡_, refl, sym, _∙_, ap}
 use mathlib.Core.Bool.{Bool, true, true≢false}
 use mathlib.Core.List.{List}
+use native.Mathlib.Omega.{arith}
 use lib.ListN.{length}
-use Rattle.lists.specs.Tests.{when_then_else_}
+use Rattle.lists.specs.Tests.{when_then_else_, _<?_}
+use Rattle.lists.proofs.Laws.{when-either}
+use Rattle.packets.specs.declared.Packet.{Packet}
+use Rattle.verdict.specs.declared.Verdict.{Verdict}
+use Rattle.verdict.specs.declared.Verdict.the-variants as verdicts
 use Rattle.panel.specs.declared.Line.{Line}
 use Rattle.answers.specs.declared.Answer.{Answer}
 use Rattle.answers.specs.declared.Answer.the-variants.{Waiting, Stray, Done, Refused, CallRefused}
@@ -12,8 +17,8 @@ use Rattle.answers.specs.Answer.{numbersOf, isDone}
 use Rattle.answers.proofs.Checks.{Pass, either-way, refused-by, accepted-by}
 use Rattle.listen.specs.declared.Sizes.{Sizes}
 use Rattle.listen.specs.declared.Heard.{Heard}
-use Rattle.listen.specs.Reply.{refusedReply}
-use Rattle.listen.specs.Listen.{lineTests, listened, listenedReply}
+use Rattle.listen.specs.Reply.{ruling, answerTo, refusedReply}
+use Rattle.listen.specs.Listen.{lineTests, answerIn, listened, listenedReply}
 
 -- 3: "done"
 pub done-number : (a : Answer) → isDone a ≡ true → numbersOf a .number ≡ 3
@@ -23,6 +28,20 @@ done-number (Stray command) e = absurd (true≢false (sym e))
 done-number (Done command) e = refl
 done-number (Refused command reason place) e = absurd (true≢false (sym e))
 done-number (CallRefused check) e = absurd (true≢false (sym e))
+
+-- what is heard is not refused by number
+abbrev below : Answer → Type 0
+below a = numbersOf a .number < 10
+
+ruled-number : (v : Verdict) (code : ℕ) → below (ruling v code)
+unfolding ruling numbersOf
+ruled-number verdicts.Allowed code = omega arith
+ruled-number (verdicts.Refused reason place) code = omega arith
+
+pub heard-number : (found : Bool) (p : Packet) → numbersOf (answerIn found p) .number < 10
+unfolding answerIn answerTo numbersOf
+heard-number found p =
+    when-either below found (answerTo p) Waiting (λ _. when-either below (p .kind <? 64) _ _ (λ _. ruled-number _ (p .kind)) (λ _. omega arith)) (λ _. omega arith)
 
 -- an error reply is a refused packet's
 pub done-unreplied : (a : Answer) (out : List ℕ) → isDone a ≡ true → refusedReply a out ≡ out

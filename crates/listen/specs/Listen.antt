@@ -6,10 +6,12 @@ use mathlib.Core.List.{List, [], _∷_}
 use lib.ListN.{length, take}
 use Rattle.lists.specs.Tests.{when_then_else_, _≤?_, _=?_}
 use Rattle.packets.specs.declared.Packet.{Packet}
-use Rattle.packets.specs.Packet.{packetOf}
+use Rattle.packets.specs.Packet.{replySize, packetOf}
 use Rattle.packets.specs.Hold.{held}
 use Rattle.framing.specs.declared.Scanned.{Scanned}
-use Rattle.framing.specs.Scan.{scan, scannedOf}
+use Rattle.framing.specs.Scan.{scan, scannedOf, pieceMost}
+use Rattle.filing.specs.Filing.{registerRecords}
+use Rattle.picture.specs.Draw.{cellCount, pictureSize, fontSize}
 use Rattle.panel.specs.declared.Line.{Line}
 use Rattle.panel.specs.State.{lineHolding}
 use Rattle.answers.specs.declared.Check.{Check}
@@ -23,16 +25,20 @@ use Rattle.listen.specs.Reply.{answerTo, refusedLength, refusedReply}
 use Rattle.listen.specs.declared.Sizes.{Sizes}
 use Rattle.listen.specs.declared.Heard.{Heard}
 
+-- "piece above 4,096 bytes"
+abbrev pub pieceSize : ℕ
+pieceSize = 4096
+
 -- "Line calls check 10 to 16": whether the state is in its ranges, and the sizes of what is lent
 abbrev pub lineTests : Bool → ℕ → Sizes → ℕ → List Test
 lineTests inRange piece sizes reply =
     test inRange StateRange
-    ∷ test (piece ≤? 4096) PieceSize
-    ∷ test (sizes .picture =? 640) PictureSize
-    ∷ test (sizes .font =? 2048) FontSize
-    ∷ test (sizes .list =? 80) ListSize
-    ∷ test (reply =? 26) ReplySize
-    ∷ test (sizes .records =? 64) RegisterSize
+    ∷ test (piece ≤? pieceSize) PieceSize
+    ∷ test (sizes .picture =? pictureSize) PictureSize
+    ∷ test (sizes .font =? fontSize) FontSize
+    ∷ test (sizes .list =? cellCount) ListSize
+    ∷ test (reply =? replySize) ReplySize
+    ∷ test (sizes .records =? registerRecords) RegisterSize
     ∷ []
 
 -- a call that is refused by number: "state unchanged, all counts 0"
@@ -59,7 +65,7 @@ heardReply s reply = refusedReply (answerIn (s .found) (s .packet)) reply
 
 -- the piece, scanned with the bytes that the line holds
 abbrev pub scannedBy : Line → List ℕ → Scanned
-scannedBy line piece = scannedOf (scan (held (line .hold)) (take 65535 piece))
+scannedBy line piece = scannedOf (scan (held (line .hold)) (take pieceMost piece))
 
 unfoldable pub listened : Bool → Line → List ℕ → Sizes → List ℕ → Heard
 listened inRange line piece sizes reply =

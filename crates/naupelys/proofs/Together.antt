@@ -1,55 +1,76 @@
 -- How a call over bytes comes out, put together from the promises of what it calls.
 use Prim.Native.Nat.{ℕ}
-use mathlib.Core.Path.{_≡_, sym, _∙_, ap}
-use mathlib.Core.Bool.{true}
-use mathlib.Core.List.{List}
+use mathlib.Core.Path.{_≡_, refl, sym, _∙_, ap}
+use mathlib.Core.Bool.{Bool, true, false}
+use mathlib.Core.List.{List, _∷_}
 use lib.ListN.{length}
 use borrow.Author.Tests.{eq-eqb, ne-eqb}
 use Rattle.lists.specs.Tests.{when_then_else_, _<?_}
 use Rattle.lists.proofs.Laws.{when-true, when-false}
 use Rattle.panel.specs.declared.Panel.{Panel}
 use Rattle.panel.specs.State.{poweredOn}
+use Rattle.ranges.specs.Ranges.{inRanges}
+use Rattle.answers.specs.declared.Check.{Check}
+use Rattle.answers.specs.declared.Check.the-variants.{StateRange}
 use Rattle.answers.specs.declared.Said.{Said}
-use Rattle.answers.specs.Answer.{refusedCall, acceptedCall}
+use Rattle.answers.specs.Answer.{checkNumber, numbersOf, refusedCall, acceptedCall}
+use Rattle.answers.specs.Checks.{Test, test, decided}
 use Rattle.answers.proofs.Checks.{either-way, refused-by, accepted-by}
 use Rattle.power.specs.Power.{PowersOn, powerTests, powerSaid}
 use Rattle.statebytes.specs.State.{stateSize, bytesOf, panelOf, isState, onState, stateWith, WritesState}
 use Rattle.saidbytes.specs.Says.{numberOf, bytesSaid, noState}
 use Rattle.linebytes.specs.Line.{stateAfter}
-use Rattle.linebytes.proofs.OnState.{on-state, on-none}
-use Rattle.naupelys.specs.Calls.{PowerOnBytes, OnBytes, Told, EndsCall}
+use Rattle.naupelys.specs.Calls.{overfull, panelIn, PowerOnBytes, OnBytes, Told, EndsCall}
 
 with-state : (state : List ℕ) (p : Panel) → isState state ≡ true → stateWith state p ≡ bytesOf p
 unfolding stateWith
 with-state state p e = when-true _ _ _ e
 
--- bytes that are no state
-module _ (state : List ℕ) (other : length state ≡ stateSize → ⊥) where
-  pub off : {A : Type 0} (x : A) (f : Panel → A) → x ≡ onState state x f
-  off x f = sym (on-none state x f (ne-eqb (length state) stateSize other))
+-- what is read of bytes that are no state
+abbrev none : Panel
+none = overfull poweredOn
 
-  pub refused : (saidOn : Panel → Said) {number : ℕ} {said′ : List ℕ} → (number ≡ 10) × (said′ ≡ noState) → OnBytes saidOn state number state said′
-  refused saidOn told = record { number = told .0 ∙ off _ _; state = off _ _; said = told .1 ∙ off _ _ }
+out-of-range : inRanges none ≡ false
+unfolding inRanges
+out-of-range = refl
 
--- bytes that are a state, and the panel that they are
-module _ (state : List ℕ) (size : length state ≡ stateSize) {panel : Panel} (is : panel ≡ panelOf state) where
-  a-state : isState state ≡ true
-  a-state = eq-eqb (length state) stateSize size
+-- whatever a call's later checks are, its first one refuses it
+pub outside : {A : Type 0} (tests : List Test) (refused : Check → A) (accepted : A) → decided (test (inRanges none) StateRange ∷ tests) refused accepted ≡ refused StateRange
+unfolding decided
+outside tests refused accepted = when-false _ _ _ out-of-range
 
-  pub on : {A : Type 0} (x : A) (f : Panel → A) → f panel ≡ onState state x f
-  on x f = ap f is ∙ sym (on-state state x f a-state)
+picked : {A : Type 0} (t : Bool) (call : Panel → A) (p q : Panel) {refused : A} → call q ≡ refused → call (when t then p else q) ≡ (when t then call p else refused)
+unfolding when_then_else_
+picked true call p q e = refl
+picked false call p q e = e
 
-  kept : (s : Said) → when numberOf s <? 10 then stateWith state (s .panel) else state ≡ stateAfter state s
-  unfolding stateAfter
-  kept s = rw (with-state state (s .panel) a-state)
+kept-by : (t : Bool) (state : List ℕ) (s : Said) → (t ≡ false → numberOf s <? 10 ≡ false)
+    → (when numberOf s <? 10 then (when t then bytesOf (s .panel) else state) else state) ≡ (when numberOf s <? 10 then bytesOf (s .panel) else state)
+unfolding when_then_else_
+kept-by true state s h = refl
+kept-by false state s h = when-false _ _ _ (h refl) ∙ sym (when-false _ _ _ (h refl))
 
-  pub called : (saidOn : Panel → Said) (s : Said) → s ≡ saidOn panel → {number : ℕ} {state′ said′ : List ℕ} → EndsCall state s number state′ said′
-      → OnBytes saidOn state number state′ said′
-  called saidOn s q e = record {
-    number = e .0 ∙ ap numberOf q ∙ on 10 (λ (p : Panel). numberOf (saidOn p));
-    state = e .1 ∙ kept s ∙ ap (stateAfter state) q ∙ on state (λ (p : Panel). stateAfter state (saidOn p));
-    said = e .2 ∙ ap bytesSaid q ∙ on noState (λ (p : Panel). bytesSaid (saidOn p));
-  }
+module _ (state : List ℕ) where
+  -- what a call makes of the panel that it reads
+  pub on : {A : Type 0} (refused : A) (call : Panel → A) → call none ≡ refused → call (panelIn state) ≡ onState state refused call
+  unfolding panelIn onState
+  on refused call e = picked (isState state) call (panelOf state) none e
+
+  kept : (s : Said) → (isState state ≡ false → numberOf s <? 10 ≡ false) → (when numberOf s <? 10 then stateWith state (s .panel) else state) ≡ stateAfter state s
+  unfolding stateWith stateAfter
+  kept s h = kept-by (isState state) state s h
+
+  pub called : {panel : Panel} → panel ≡ panelIn state → (saidOn : Panel → Said) → saidOn none ≡ refusedCall none StateRange → (s : Said) → s ≡ saidOn panel
+      → {number : ℕ} {state′ said′ : List ℕ} → EndsCall state s number state′ said′ → OnBytes saidOn state number state′ said′
+  unfolding panelIn stateAfter numbersOf checkNumber when_then_else_
+  called is saidOn out s q e =
+      let said : s ≡ saidOn (panelIn state) = q ∙ ap saidOn is in
+      let ten : isState state ≡ false → numberOf s <? 10 ≡ false = λ no. ap (λ (s : Said). numberOf s <? 10) (said ∙ ap saidOn (when-false _ _ _ no) ∙ out) in
+      record {
+        number = e .0 ∙ ap numberOf said ∙ on 10 (λ (p : Panel). numberOf (saidOn p)) (ap numberOf out);
+        state = e .1 ∙ kept s ten ∙ ap (stateAfter state) said ∙ on state (λ (p : Panel). stateAfter state (saidOn p)) (ap (stateAfter state) out);
+        said = e .2 ∙ ap bytesSaid said ∙ on noState (λ (p : Panel). bytesSaid (saidOn p)) (ap bytesSaid out);
+      }
 
 -- power-on returns the power-on state, refused or not
 pub power-panel : (picture font : List ℕ) → powerSaid picture font .panel ≡ poweredOn

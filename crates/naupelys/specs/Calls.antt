@@ -1,17 +1,18 @@
 -- What power-on, key and pin over lent bytes promise of the number that they return and of each byte lent to them; what the
 -- line call promises is `LineBytes` of linebytes.
-use Prim.Native.Nat.{ℕ}
+use Prim.Native.Nat.{ℕ, _+_}
 use mathlib.Core.Path.{_≡_}
 use mathlib.Core.Bool.{Bool}
 use mathlib.Core.List.{List}
 use Rattle.lists.specs.Tests.{when_then_else_, _<?_}
+use Rattle.packets.specs.Hold.{heldMost}
 use Rattle.panel.specs.declared.Panel.{Panel}
 use Rattle.panel.specs.State.{poweredOn}
 use Rattle.answers.specs.declared.Said.{Said}
 use Rattle.power.specs.Power.{powerSaid, powerPicture}
 use Rattle.events.specs.Keys.{keySaid, keyReply}
 use Rattle.events.specs.Pins.{pinSaid}
-use Rattle.statebytes.specs.State.{bytesOf, isState, onState, stateWith}
+use Rattle.statebytes.specs.State.{bytesOf, panelOf, isState, onState, stateWith}
 use Rattle.saidbytes.specs.Says.{numberOf, bytesSaid, noState}
 use Rattle.linebytes.specs.Line.{stateAfter}
 
@@ -21,6 +22,14 @@ pub record PowerOnBytes (s p font : List ℕ) (n : ℕ) (s′ p′ said′ : Lis
   pub state : s′ ≡ (when isState s then bytesOf poweredOn else s)
   pub picture : p′ ≡ (when isState s then powerPicture p font else p)
   pub said : said′ ≡ (when isState s then bytesSaid (powerSaid p font) else noState)
+
+-- a panel that holds more than it can, and so is out of its ranges
+abbrev pub overfull : Panel → Panel
+overfull p = record { line = record { hold = record { bytes = p .line .hold .bytes; count = heldMost + 1 }; unfiled = p .line .unfiled }; body = p .body }
+
+-- the panel that a call reads: for bytes that are no state one out of its ranges, which the first check of a call refuses
+unfoldable pub panelIn : List ℕ → Panel
+panelIn state = when isState state then panelOf state else overfull poweredOn
 
 -- a call on a state's bytes, by what it says on a panel; bytes that are no state are answered 10 and stay
 pub record OnBytes (saidOn : Panel → Said) (s : List ℕ) (n : ℕ) (s′ said′ : List ℕ) : Type 0 where

@@ -1,41 +1,36 @@
 // The panel for a C caller: the four calls of include/naupelys.h over lent bytes.
 ghost use mathlib.Core.Path.{_≡_};
 ghost use lib.ListN.{length};
-ghost use Rattle.statebytes.specs.State.{stateSize, panelOf};
-ghost use Rattle.saidbytes.specs.Says.{noState};
 ghost use Rattle.linecall.specs.Line.{lent};
 ghost use Rattle.linebytes.specs.Line.{recordsIn, LineBytes};
-ghost use Rattle.naupelys.specs.Calls.{Told, EndsCall, PowerOnBytes, KeyBytes, PinBytes};
+ghost use Rattle.naupelys.specs.Calls.{panelIn, Told, EndsCall, PowerOnBytes, KeyBytes, PinBytes};
 use answers::Check;
 use answers::Said;
+use packets::HELD;
 use panel::Panel;
+use saidbytes::SAID;
 use statebytes::places::SIZE;
 
+// More bytes than a panel can hold.
+const OVERFULL: usize = HELD + 1;
+
 // The answer and the counts written as what the call says; the answer's number.
-fn told(said: &mut [u8; 16], s: Said) -> u8
+fn told(said: &mut [u8; SAID], s: Said) -> u8
     ensures { λ r. ⌜ Told s r (now (said .exit)) ⌝ }
 {
     let answer = s.answer;
-    let n = answers::told(answer);
-    saidbytes::write(said, n, s.counts, s.reply, s.listed);
-    n.number
+    saidbytes::write(said, answer, s.counts, s.reply, s.listed)
 }
 
-// Bytes that are no state.
-fn no_state(said: &mut [u8; 16]) -> u8
-    ensures { λ r. ⌜ (r ≡ 10) × (now (said .exit) ≡ noState) ⌝ }
-{
-    saidbytes::refused(said, Check::StateRange)
-}
-
-// The panel that the bytes are. Their size, known to the caller, is tested where they are read, so that the compiler leaves out
-// what the readings return for other sizes, and its stack.
+// The panel that the bytes are. Bytes that are no state are read as a panel out of its ranges, so that a call refuses them by
+// its first check.
 fn panel_in(state: &[u8]) -> Panel
-    requires { ⌜ length (now state) ≡ stateSize ⌝ }
-    ensures { λ r. ⌜ r ≡ panelOf (now (state .entry)) ⌝ }
+    ensures { λ r. ⌜ r ≡ panelIn (now (state .entry)) ⌝ }
 {
     if state.len() != SIZE {
-        return panel::powered_on();
+        let mut p = panel::powered_on();
+        p.line.hold.count = OVERFULL;
+        return p;
     }
     Panel {
         line: statebytes::line::read_line(state),
@@ -44,7 +39,7 @@ fn panel_in(state: &[u8]) -> Panel
 }
 
 // The end of a call on a state: the state after it, unless the call was refused by number.
-fn ended(state: &mut [u8], s: Said, said: &mut [u8; 16]) -> u8
+fn ended(state: &mut [u8], s: Said, said: &mut [u8; SAID]) -> u8
     ensures { λ r. ⌜ EndsCall (now (state .entry)) s r (now (state .exit)) (now (said .exit)) ⌝ }
 {
     let number = told(said, s);
@@ -60,12 +55,12 @@ pub extern "C" fn naupelys_power_on(
     state: &mut [u8],
     picture: &mut [u8],
     font: &[u8],
-    said: &mut [u8; 16],
+    said: &mut [u8; SAID],
 ) -> u8
     ensures { λ r. ⌜ PowerOnBytes (now (state .entry)) (now (picture .entry)) (now (font .entry)) r (now (state .exit)) (now (picture .exit)) (now (said .exit)) ⌝ }
 {
     if state.len() != SIZE {
-        return no_state(said);
+        return saidbytes::refused(said, Check::StateRange);
     }
     let on = power::power_on(picture, font);
     statewrites::write(state, on.panel.line, on.panel.body);
@@ -82,7 +77,7 @@ pub extern "C" fn naupelys_line(
     list: &mut [u8],
     reply: &mut [u8],
     faults: &mut [u8],
-    said: &mut [u8; 16],
+    said: &mut [u8; SAID],
 ) -> u8
     ensures { λ r. ⌜ LineBytes (now (state .entry)) (lent (now (piece .entry)) (now (picture .entry)) (now (font .entry)) (now (list .entry)) (now (reply .entry)) (recordsIn (length (now (faults .entry))))) (now (faults .entry)) r (now (state .exit)) (now (picture .exit)) (now (list .exit)) (now (reply .exit)) (now (faults .exit)) (now (said .exit)) ⌝ }
 {
@@ -96,25 +91,19 @@ pub extern "C" fn naupelys_key(
     key: u32,
     down: bool,
     reply: &mut [u8],
-    said: &mut [u8; 16],
+    said: &mut [u8; SAID],
 ) -> u8
     ensures { λ r. ⌜ KeyBytes (now (state .entry)) key down (now (reply .entry)) r (now (state .exit)) (now (reply .exit)) (now (said .exit)) ⌝ }
 {
-    if state.len() != SIZE {
-        return no_state(said);
-    }
     let s = events::keys::key(panel_in(state), key, down, reply);
     ended(state, s, said)
 }
 
 // The level at a pin.
 #[no_mangle]
-pub extern "C" fn naupelys_pin(state: &mut [u8], pin: u32, high: bool, said: &mut [u8; 16]) -> u8
+pub extern "C" fn naupelys_pin(state: &mut [u8], pin: u32, high: bool, said: &mut [u8; SAID]) -> u8
     ensures { λ r. ⌜ PinBytes (now (state .entry)) pin high r (now (state .exit)) (now (said .exit)) ⌝ }
 {
-    if state.len() != SIZE {
-        return no_state(said);
-    }
     let s = events::pins::pin(panel_in(state), pin, high);
     ended(state, s, said)
 }

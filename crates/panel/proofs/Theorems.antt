@@ -1,35 +1,7 @@
--- What holds of the panel's state over and above the functions' own promises.
-use Prim.Native.Nat.{ℕ}
-use mathlib.Core.Path.{_≡_, refl}
-use mathlib.Core.Bool.{true}
-use mathlib.Core.List.{List}
+-- Any two results that its promise allows are equal.
 use Rattle.lists.specs.Promise.{Determined}
-use Rattle.lists.specs.Tests.{all}
 use Rattle.lists.proofs.Theorems.{one}
-use Rattle.table.specs.Table.{configAllowed}
-use Rattle.panel.specs.declared.Cursor.{Cursor}
-use Rattle.panel.specs.declared.Dials.{Dials}
-use Rattle.panel.specs.declared.Masks.{Masks}
-use Rattle.panel.specs.declared.Keys.{Keys}
-use Rattle.panel.specs.declared.Pins.{Pins}
-use Rattle.panel.specs.declared.Panel.{Panel}
-use Rattle.panel.specs.State.{factorySettings, poweredOn, Starts}
-use Rattle.panel.specs.Ranges.{allOf, cursorInRange, dialsInRange, masksInRange, partsInRange, keysInRange, pinsInRange, inRanges, PartsRange, InputsRange, Ranges}
+use Rattle.panel.specs.State.{Starts}
 
--- The state at power-on is in its ranges: antt computes the test.
-pub power-on-in-range : inRanges poweredOn ≡ true
-unfolding inRanges poweredOn factorySettings partsInRange cursorInRange dialsInRange masksInRange keysInRange pinsInRange all allOf configAllowed
-power-on-in-range = refl
-
--- For each public function, any two results that its promise allows are equal.
 pub powered-on-determined : Determined Starts
 powered-on-determined = one _
-
-pub parts-in-range-determined : (glyphs : List ℕ) (cursor : Cursor) (dials : Dials) (masks : Masks) (levels configs : List ℕ) → Determined (PartsRange glyphs cursor dials masks levels configs)
-parts-in-range-determined glyphs cursor dials masks levels configs = one _
-
-pub inputs-in-range-determined : (k : Keys) (p : Pins) → Determined (InputsRange k p)
-inputs-in-range-determined k p = one _
-
-pub in-ranges-determined : (p : Panel) → Determined (Ranges p)
-in-ranges-determined p = one _

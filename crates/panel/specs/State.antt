@@ -13,16 +13,32 @@ use Rattle.panel.specs.declared.Pins.{Pins}
 use Rattle.panel.specs.declared.Body.{Body}
 use Rattle.panel.specs.declared.Panel.{Panel}
 
+-- how many codes are shown, rows the glyphs have, pins there are and pins with an input, and bytes the flash has
+abbrev pub codeCount : ℕ
+codeCount = 80
+
+abbrev pub glyphRows : ℕ
+glyphRows = 64
+
+abbrev pub pinCount : ℕ
+pinCount = 13
+
+abbrev pub inputCount : ℕ
+inputCount = 5
+
+abbrev pub flashSize : ℕ
+flashSize = 16
+
 -- "Factory boot state, also at power-on: spaces, glyph rows 0, cursor 0,0, style 0, contrast 95, backlight 100, masks 63,
 -- pin levels 0, config 3 for pin 1 and 2 for pins 0, 2, 3 and 4"
 unfoldable pub factorySettings : Settings
 factorySettings =
     record {
-      shown = record { text = replicate 80 32; glyphs = replicate 64 0 };
+      shown = record { text = replicate codeCount 32; glyphs = replicate glyphRows 0 };
       cursor = record { column = 0; row = 0 };
       dials = record { style = 0; contrast = 95; backlight = 100 };
       masks = record { press = 63; release = 63 };
-      wires = record { levels = replicate 13 0; configs = 2 ∷ 3 ∷ 2 ∷ 2 ∷ 2 ∷ [] };
+      wires = record { levels = replicate pinCount 0; configs = 2 ∷ 3 ∷ 2 ∷ 2 ∷ 2 ∷ [] };
     }
 
 abbrev pub noKeys : Keys
@@ -36,7 +52,7 @@ unfoldable pub poweredOn : Panel
 poweredOn =
     record {
       line = record { hold = holdOf []; unfiled = 0 };
-      body = record { live = factorySettings; boot = factorySettings; keys = noKeys; pins = lowPins; flash = replicate 16 0 };
+      body = record { live = factorySettings; boot = factorySettings; keys = noKeys; pins = lowPins; flash = replicate flashSize 0 };
     }
 
 -- what `powered_on` promises

@@ -3,8 +3,6 @@ ghost use mathlib.Core.Path.{_≡_};
 ghost use Rattle.panel.specs.State.{factorySettings, Starts};
 use packets::Hold;
 
-pub mod ranges;
-
 // How many codes are shown, rows the glyphs have, pins there are and pins with an input, and bytes the flash has.
 pub const CODES: usize = 80;
 

@@ -5,7 +5,18 @@ use mathlib.Core.List.{List, [], _∷_}
 use lib.ListN.{getD, set, replicate}
 use Rattle.lists.specs.Tests.{when_then_else_, _<?_}
 use Rattle.panel.specs.declared.Shown.{Shown}
+use Rattle.panel.specs.State.{codeCount}
 use Rattle.glyphs.specs.Glyphs.{eightFrom, nestedOf}
+
+-- each code has a cell, a cell eight bytes, and a font eight for each of 256 codes
+abbrev pub cellCount : ℕ
+cellCount = codeCount
+
+abbrev pub pictureSize : ℕ
+pictureSize = 8 * cellCount
+
+abbrev pub fontSize : ℕ
+fontSize = 8 * 256
 
 -- the screen: the 80 codes, and the eight special glyphs of eight rows each
 pub record Screen : Type 0 where
@@ -70,4 +81,4 @@ paint keep bytes picture (suc cell) =
 
 -- the picture drawn afresh: all 80 cells
 unfoldable pub drawn : Screen → List ℕ → List ℕ
-drawn s bytes = paint (λ cell. false) (cellDrawn s bytes) (replicate 640 0) 80
+drawn s bytes = paint (λ cell. false) (cellDrawn s bytes) (replicate pictureSize 0) cellCount

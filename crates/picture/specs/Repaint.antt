@@ -7,7 +7,7 @@ use mathlib.Core.List.{List, [], _∷_, _++_}
 use lib.ListN.{length, getD}
 use Rattle.lists.specs.Tests.{when_then_else_, _=?_}
 use Rattle.lists.specs.Runs.{front}
-use Rattle.picture.specs.Draw.{Screen, cellDrawn, put, paint, drawn}
+use Rattle.picture.specs.Draw.{cellCount, pictureSize, Screen, cellDrawn, put, paint, drawn}
 
 -- whether the first n bytes are the same
 abbrev pub alike : ℕ → List ℕ → List ℕ → Bool
@@ -26,11 +26,11 @@ changedBelow before after font (suc cell) =
     else changedBelow before after font cell ++ cell ∷ []
 
 abbrev pub changed : Screen → Screen → List ℕ → List ℕ
-changed before after font = changedBelow before after font 80
+changed before after font = changedBelow before after font cellCount
 
 -- the picture with all eight bytes of each changed cell written
 unfoldable pub painted : Screen → Screen → List ℕ → List ℕ → List ℕ
-painted before after font picture = paint (same before after font) (cellDrawn after font) picture 80
+painted before after font picture = paint (same before after font) (cellDrawn after font) picture cellCount
 
 -- what the repaint of one cell promises: whether it draws as it did, and the picture with its eight bytes written if not
 abbrev pub RepaintsCell : ℕ → List ℕ → List ℕ → List ℕ → Bool → List ℕ → Type 0
@@ -47,7 +47,7 @@ Repaints before after font picture list r picture′ list′ =
 
 -- a picture of 640 bytes and a list of 80
 abbrev pub paintable : List ℕ → List ℕ → Bool
-paintable picture list = (length picture =? 640) && (length list =? 80)
+paintable picture list = (length picture =? pictureSize) && (length list =? cellCount)
 
 -- what `repaint` promises: a repaint where picture and list are of their sizes; elsewhere none is listed and nothing changes
 abbrev pub RepaintsSized : Screen → Screen → List ℕ → List ℕ → List ℕ → ℕ → List ℕ → List ℕ → Type 0
@@ -57,4 +57,4 @@ RepaintsSized before after font picture list r picture′ list′ =
 
 -- what `draw_all` promises: a picture of 640 bytes is drawn afresh, one of another size stays as it is
 abbrev pub DrawsAll : Screen → List ℕ → List ℕ → List ℕ → Type 0
-DrawsAll s font picture picture′ = picture′ ≡ (when length picture =? 640 then drawn s font else picture)
+DrawsAll s font picture picture′ = picture′ ≡ (when length picture =? pictureSize then drawn s font else picture)

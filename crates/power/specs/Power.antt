@@ -5,7 +5,7 @@ use mathlib.Core.List.{List, [], _∷_}
 use lib.ListN.{length}
 use Rattle.lists.specs.Tests.{_=?_}
 use Rattle.panel.specs.State.{poweredOn}
-use Rattle.picture.specs.Draw.{drawn, screenOf}
+use Rattle.picture.specs.Draw.{pictureSize, fontSize, drawn, screenOf}
 use Rattle.answers.specs.declared.Check.the-variants.{PictureSize, FontSize}
 use Rattle.answers.specs.declared.Said.{Said}
 use Rattle.answers.specs.Answer.{refusedCall, acceptedCall}
@@ -13,7 +13,7 @@ use Rattle.answers.specs.Checks.{Test, test, decided}
 
 -- "power-on 12 and 13"
 abbrev pub powerTests : ℕ → ℕ → List Test
-powerTests picture font = test (picture =? 640) PictureSize ∷ test (font =? 2048) FontSize ∷ []
+powerTests picture font = test (picture =? pictureSize) PictureSize ∷ test (font =? fontSize) FontSize ∷ []
 
 -- a refused power-on "still returns the power-on state"; an accepted one answers 3
 abbrev pub powerSaid : List ℕ → List ℕ → Said

@@ -7,7 +7,7 @@ use lib.ListN.{length, replicate}
 use Rattle.lists.specs.Tests.{when_then_else_, _=?_}
 use Rattle.shapes.specs.Shape.{Shape, byte, word, _▸_, times, _&_, Value, size, bytes, value}
 use Rattle.filing.specs.declared.Record.{Record}
-use Rattle.filing.specs.Filing.{blank}
+use Rattle.filing.specs.Filing.{registerRecords, blank}
 
 -- command, reason, place, count
 abbrev pub recordShape : Shape
@@ -25,7 +25,7 @@ recordAt b k = recordFrom (value recordShape b k)
 
 -- "a run of 64 records"
 abbrev pub registerShape : Shape
-registerShape = times 64 recordShape
+registerShape = times registerRecords recordShape
 
 abbrev pub registerSize : ℕ
 registerSize = size registerShape
@@ -42,7 +42,7 @@ recordsLent b = when isRegister b then map recordFrom (value registerShape b 0) 
 
 -- free records where the bytes are no register
 unfoldable pub registerOf : List ℕ → List Record
-registerOf b = when isRegister b then map recordFrom (value registerShape b 0) else replicate 64 blank
+registerOf b = when isRegister b then map recordFrom (value registerShape b 0) else replicate registerRecords blank
 
 -- the bytes with the records written; left alone where they are no register
 unfoldable pub registerWith : List ℕ → List Record → List ℕ

@@ -8,6 +8,7 @@ use Rattle.lists.proofs.Theorems.{one, and}
 use Rattle.shapes.specs.Shape.{size, places, value}
 use Rattle.shapes.proofs.Laws.{read-back, length-bytes}
 use Rattle.framing.specs.declared.Counts.{Counts}
+use Rattle.answers.specs.declared.Answer.{Answer}
 use Rattle.answers.specs.declared.Check.{Check}
 use Rattle.answers.specs.declared.Numbers.{Numbers}
 use Rattle.saidbytes.specs.Says.{numbersShape, countsShape, saidShape, saidParts, saidBytes, SaidFits, Says, SaysRefused}
@@ -37,8 +38,8 @@ module _ (n : Numbers) (c : Counts) (reply listed : ℕ) where
       read-back saidShape (saidParts n c reply listed) ((tt, (tt, (tt, tt))), ((fits .taken, (fits .dropped, fits .checked)), (fits .reply, (fits .listed, refl))))
 
 -- For each public function, any two results that its promise allows are equal, the lent bytes included.
-pub says-write-determined : (n : Numbers) (c : Counts) (reply listed : ℕ) → Determined (Says n c reply listed)
-says-write-determined n c reply listed = one _
+pub says-write-determined : (a : Answer) (c : Counts) (reply listed : ℕ) → Determined (λ (x : ℕ × List ℕ). Says a c reply listed (x .0) (x .1))
+says-write-determined a c reply listed = and (one _) (one _)
 
 pub says-refused-determined : (check : Check) → Determined (λ (x : ℕ × List ℕ). SaysRefused check (x .0) (x .1))
-says-refused-determined check = and (one _) (one _)
+says-refused-determined check = says-write-determined _ _ _ _

@@ -6,6 +6,7 @@ use Rattle.shapes.specs.Shape.{Shape, byte, counter, half, word, run, _▸_, _&
 use Rattle.framing.specs.declared.Counts.{Counts}
 use Rattle.answers.specs.declared.Check.{Check}
 use Rattle.answers.specs.declared.Check.the-variants.{StateRange}
+use Rattle.answers.specs.declared.Answer.{Answer}
 use Rattle.answers.specs.declared.Answer.the-variants.{CallRefused}
 use Rattle.answers.specs.declared.Numbers.{Numbers}
 use Rattle.answers.specs.declared.Said.{Said}
@@ -58,10 +59,10 @@ refusedBytes check = saidBytes (numbersOf (CallRefused check)) noCounts 0 0
 abbrev pub noState : List ℕ
 noState = refusedBytes StateRange
 
--- what `write` promises of the 16 bytes, whatever they were
-abbrev pub Says : Numbers → Counts → ℕ → ℕ → List ℕ → Type 0
-Says n c reply listed said′ = said′ ≡ saidBytes n c reply listed
+-- what `write` promises of the number that it returns, and of the 16 bytes, whatever they were
+abbrev pub Says : Answer → Counts → ℕ → ℕ → ℕ → List ℕ → Type 0
+Says a c reply listed number said′ = (number ≡ numbersOf a .number) × (said′ ≡ saidBytes (numbersOf a) c reply listed)
 
 -- what `refused` promises: the number, and all counts 0
 abbrev pub SaysRefused : Check → ℕ → List ℕ → Type 0
-SaysRefused check number said′ = (number ≡ numbersOf (CallRefused check) .number) × (said′ ≡ refusedBytes check)
+SaysRefused check = Says (CallRefused check) noCounts 0 0

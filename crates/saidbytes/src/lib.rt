@@ -2,16 +2,16 @@
 ghost use Rattle.saidbytes.specs.Says.{Says, SaysRefused};
 use answers::Answer;
 use answers::Check;
-use answers::Numbers;
 use framing::Counts;
 
 // How many bytes it takes.
 pub const SAID: usize = 16;
 
-// The numbers of the answer, the counts, the reply's length and how many cells are listed.
-pub fn write(said: &mut [u8; 16], n: Numbers, c: Counts, reply: usize, listed: usize)
-    ensures { λ r. ⌜ Says n c reply listed (now (said .exit)) ⌝ }
+// The numbers of the answer, the counts, the reply's length and how many cells are listed; returns the answer's number.
+pub fn write(said: &mut [u8; SAID], answer: Answer, c: Counts, reply: usize, listed: usize) -> u8
+    ensures { λ r. ⌜ Says answer c reply listed r (now (said .exit)) ⌝ }
 {
+    let n = answers::told(answer);
     *said = [
         n.number,
         n.command,
@@ -30,18 +30,17 @@ pub fn write(said: &mut [u8; 16], n: Numbers, c: Counts, reply: usize, listed: u
         0,
         0,
     ];
+    n.number
 }
 
 // A call that is refused by number: nothing is changed, and all counts are 0.
-pub fn refused(said: &mut [u8; 16], check: Check) -> u8
+pub fn refused(said: &mut [u8; SAID], check: Check) -> u8
     ensures { λ r. ⌜ SaysRefused check r (now (said .exit)) ⌝ }
 {
-    let n = answers::told(Answer::CallRefused(check));
     let none = Counts {
         taken: 0,
         dropped: 0,
         checked: 0,
     };
-    write(said, n, none, 0, 0);
-    n.number
+    write(said, Answer::CallRefused(check), none, 0, 0)
 }

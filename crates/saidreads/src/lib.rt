@@ -2,6 +2,7 @@
 ghost use mathlib.Core.Path.{_≡_};
 ghost use Rattle.shapes.specs.Words.{halfOf};
 ghost use Rattle.saidreads.specs.Told.{ReadsSaid};
+use saidbytes::SAID;
 use tally::CallTold;
 
 fn half_of(a: u8, b: u8) -> u64
@@ -10,7 +11,7 @@ fn half_of(a: u8, b: u8) -> u64
     a as u64 + 256 * (b as u64)
 }
 
-pub fn told(said: &[u8; 16]) -> CallTold
+pub fn told(said: &[u8; SAID]) -> CallTold
     ensures { λ r. ⌜ ReadsSaid (now (said .entry)) r ⌝ }
 {
     CallTold {

@@ -2,6 +2,7 @@
 -- its place in the two lists of fields below it.
 use Prim.Native.Nat.{ℕ, _+_}
 use Rattle.shapes.specs.Shape.{Shape, byte, counter, word, run, _▸_, _&_, Value, size}
+use Rattle.packets.specs.Hold.{heldMost}
 use Rattle.panel.specs.declared.Line.{Line}
 use Rattle.panel.specs.declared.Shown.{Shown}
 use Rattle.panel.specs.declared.Cursor.{Cursor}
@@ -13,10 +14,11 @@ use Rattle.panel.specs.declared.Keys.{Keys}
 use Rattle.panel.specs.declared.Pins.{Pins}
 use Rattle.panel.specs.declared.Body.{Body}
 use Rattle.panel.specs.declared.Panel.{Panel}
+use Rattle.panel.specs.State.{codeCount, glyphRows, pinCount, inputCount, flashSize}
 
 -- how many bytes are held, the bytes, the refusals that no record holds
 abbrev pub lineShape : Shape
-lineShape = counter ▸ run 25 ▸ word
+lineShape = counter ▸ run heldMost ▸ word
 
 abbrev pub lineParts : Line → Value lineShape
 lineParts l = l .hold .count & l .hold .bytes & l .unfiled
@@ -26,7 +28,7 @@ lineFrom (count & held & unfiled) = record { hold = record { bytes = held; count
 
 -- the codes, the special glyphs
 abbrev pub shownShape : Shape
-shownShape = run 80 ▸ run 64
+shownShape = run codeCount ▸ run glyphRows
 
 abbrev pub shownParts : Shown → Value shownShape
 shownParts s = s .text & s .glyphs
@@ -66,7 +68,7 @@ masksFrom (press & release) = record { press = press; release = release }
 
 -- levels, configs
 abbrev pub wiresShape : Shape
-wiresShape = run 13 ▸ run 5
+wiresShape = run pinCount ▸ run inputCount
 
 abbrev pub wiresParts : Wires → Value wiresShape
 wiresParts w = w .levels & w .configs
@@ -116,7 +118,7 @@ pinsFrom (last & fell & rose) = record { last = last; fell = fell; rose = rose }
 
 -- live, boot, keys, pins, flash
 abbrev pub bodyShape : Shape
-bodyShape = settingsShape ▸ settingsShape ▸ bitsShape ▸ bitsShape ▸ run 16
+bodyShape = settingsShape ▸ settingsShape ▸ bitsShape ▸ bitsShape ▸ run flashSize
 
 abbrev pub bodyParts : Body → Value bodyShape
 bodyParts b = settingsParts (b .live) & settingsParts (b .boot) & keysParts (b .keys) & pinsParts (b .pins) & b .flash

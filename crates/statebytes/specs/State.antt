@@ -11,7 +11,7 @@ use Rattle.panel.specs.declared.Line.{Line}
 use Rattle.panel.specs.declared.Body.{Body}
 use Rattle.panel.specs.declared.Panel.{Panel}
 use Rattle.panel.specs.State.{poweredOn}
-use Rattle.panel.specs.Ranges.{inRanges}
+use Rattle.ranges.specs.Ranges.{inRanges}
 use Rattle.statebytes.specs.Layout.{lineShape, lineParts, panelShape, panelParts, panelFrom}
 
 abbrev pub stateSize : ℕ

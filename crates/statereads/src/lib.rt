@@ -3,7 +3,7 @@ ghost use mathlib.Core.Path.{_≡_};
 ghost use Prim.Native.Nat.{_+_, _≤_};
 ghost use lib.ListN.{length};
 ghost use Rattle.shapes.specs.Shape.{size, value, Stands};
-ghost use Rattle.panel.specs.Ranges.{settingsInRange, inRanges};
+ghost use Rattle.ranges.specs.Ranges.{settingsInRange, inRanges};
 ghost use Rattle.statebytes.specs.Layout.{shownShape, shownParts, cursorShape, cursorParts, cursorPlace, dialsShape, dialsParts, dialsPlace, masksShape, masksParts, masksPlace, wiresShape, wiresParts, wiresPlace, settingsShape, settingsParts, settingsFrom, bitsShape, keysParts, keysPlace, pinsParts, pinsPlace, bodyShape, bodyParts, bodyPlace};
 ghost use Rattle.statebytes.specs.State.{stateSize, panelOf, ReadsBody, RangesState};
 use panel::Body;
@@ -183,7 +183,7 @@ fn settings_in_range(bytes: &[u8]) -> bool
     let cursor = cursor_of(bytes);
     let dials = dials_of(bytes);
     let masks = masks_of(bytes);
-    panel::ranges::parts_in_range(
+    ranges::parts_in_range(
         &bytes[GLYPHS..COLUMN],
         cursor,
         dials,
@@ -209,7 +209,7 @@ fn ranges_of(state: &[u8]) -> bool
     let count = state[COUNT] <= 25;
     let keys = keys_of(state);
     let pins = pins_of(state);
-    let inputs = panel::ranges::inputs_in_range(keys, pins);
+    let inputs = ranges::inputs_in_range(keys, pins);
     let live = range_at(state, LIVE);
     let boot = range_at(state, BOOT);
     count & live & boot & inputs

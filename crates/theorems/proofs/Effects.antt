@@ -26,8 +26,8 @@ use Rattle.panel.specs.declared.Pins.{Pins}
 use Rattle.panel.specs.declared.Body.{Body}
 use Rattle.panel.specs.declared.Panel.{Panel}
 use Rattle.panel.specs.State.{withStyle, withContrast, withBacklight}
-use Rattle.panel.specs.Ranges.{configsInRange, cursorInRange, dialsInRange, masksInRange, settingsInRange, keysInRange, pinsInRange, inRanges}
-use Rattle.panel.proofs.InRange.{kept, SettingsParts, settings-parts, settings-whole, keys-parts, keys-whole, pins-parts, pins-whole, panel-parts}
+use Rattle.ranges.specs.Ranges.{configsInRange, cursorInRange, dialsInRange, masksInRange, settingsInRange, keysInRange, pinsInRange, inRanges}
+use Rattle.ranges.proofs.InRange.{kept, SettingsParts, settings-parts, settings-whole, keys-parts, keys-whole, pins-parts, pins-whole, panel-parts}
 use Rattle.effects.specs.Effects.{polled, withShown, withCursor, withDials, withMasks, withWires, cleared, glyphSet, cursorAt, masksGiven, pinSet, pinRead, liveAfter, effect}
 use Rattle.theorems.proofs.Allowed.{Sound, allowed}
 use Rattle.theorems.proofs.Rows.{live-rows, effect-rows}

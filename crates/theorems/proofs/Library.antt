@@ -15,8 +15,8 @@ use Rattle.shapes.specs.Shape.{_&_, Value, Each, Bytes, Fits, value}
 use Rattle.shapes.proofs.Laws.{value-fits}
 use Rattle.panel.specs.declared.Panel.{Panel}
 use Rattle.panel.specs.State.{poweredOn}
-use Rattle.panel.specs.Ranges.{inRanges}
-use Rattle.panel.proofs.Theorems.{power-on-in-range}
+use Rattle.ranges.specs.Ranges.{inRanges}
+use Rattle.ranges.proofs.Theorems.{power-on-in-range}
 use Rattle.filing.specs.Filing.{counts}
 use Rattle.glyphs.proofs.Every.{Every}
 use Rattle.picture.specs.Draw.{cellDrawn, placeOf, drawn}

@@ -17,8 +17,8 @@ use Rattle.panel.specs.declared.Body.{Body}
 use Rattle.panel.specs.declared.Line.{Line}
 use Rattle.panel.specs.declared.Panel.{Panel}
 use Rattle.panel.specs.State.{lineHolding}
-use Rattle.panel.specs.Ranges.{inRanges}
-use Rattle.panel.proofs.InRange.{panel-parts, panel-whole}
+use Rattle.ranges.specs.Ranges.{inRanges}
+use Rattle.ranges.proofs.InRange.{panel-parts, panel-whole}
 use Rattle.answers.specs.declared.Answer.{Answer}
 use Rattle.answers.specs.declared.Said.{Said}
 use Rattle.answers.specs.Answer.{isDone, filingOf}

@@ -13,8 +13,8 @@ use Rattle.bits.specs.Bits.{isOn}
 use Rattle.panel.specs.declared.Body.{Body}
 use Rattle.panel.specs.declared.Panel.{Panel}
 use Rattle.panel.specs.State.{poweredOn, withBody, withKeys, withPins}
-use Rattle.panel.specs.Ranges.{inRanges}
-use Rattle.panel.proofs.InRange.{panel-parts, panel-whole}
+use Rattle.ranges.specs.Ranges.{inRanges}
+use Rattle.ranges.proofs.InRange.{panel-parts, panel-whole}
 use Rattle.answers.specs.declared.Check.{Check}
 use Rattle.answers.specs.declared.Answer.the-variants.{CallRefused}
 use Rattle.answers.specs.declared.Said.{Said}

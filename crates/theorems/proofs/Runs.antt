@@ -15,7 +15,7 @@ use Rattle.panel.specs.declared.Settings.{Settings}
 use Rattle.panel.specs.declared.Body.{Body}
 use Rattle.panel.specs.declared.Panel.{Panel}
 use Rattle.panel.specs.State.{poweredOn}
-use Rattle.panel.specs.Ranges.{inRanges}
+use Rattle.ranges.specs.Ranges.{inRanges}
 use Rattle.filing.specs.declared.Record.{Record}
 use Rattle.filing.specs.declared.Refusal.{Refusal}
 use Rattle.filing.specs.Filing.{Files, most, filedIf, total}

@@ -13,7 +13,7 @@ use Rattle.table.specs.Table.{lookUp, configAllowed}
 use Rattle.verdict.specs.Verdict.{inRange, firstOut, isReboot, wholeVerdict, verdictBy}
 use Rattle.glyphs.specs.Glyphs.{nestedOf, flatFirst, flatOf}
 use Rattle.panel.specs.State.{factorySettings, poweredOn}
-use Rattle.panel.specs.Ranges.{allOf, cursorInRange, dialsInRange, masksInRange, partsInRange, keysInRange, pinsInRange, inRanges}
+use Rattle.ranges.specs.Ranges.{allOf, cursorInRange, dialsInRange, masksInRange, partsInRange, keysInRange, pinsInRange, inRanges}
 use Rattle.effects.specs.Effects.{liveAfter, effect}
 use Rattle.replies.specs.Replies.{memory, edges, replyData}
 use Rattle.perform.specs.Commands.{carried}

@@ -1,7 +1,7 @@
 use mathlib.Core.Path.{_∙_, ap}
 use Rattle.shapes.specs.Shape.{Value}
 use Rattle.shapes.proofs.Laws.{value-lent}
-use Rattle.panel.specs.Ranges.{settingsInRange}
+use Rattle.ranges.specs.Ranges.{settingsInRange}
 use Rattle.statebytes.specs.Layout.{settingsShape, settingsFrom}
 use borrow.Author.Needs.{needs}
 use Rattle.statereads.proofs.range_at.Statement.{statement}

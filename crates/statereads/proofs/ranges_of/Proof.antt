@@ -1,6 +1,6 @@
 use mathlib.Core.Path.{_∙_, ap}
 use Rattle.shapes.specs.Shape.{value}
-use Rattle.panel.specs.Ranges.{inputsInRange, inRanges}
+use Rattle.ranges.specs.Ranges.{inputsInRange, inRanges}
 use Rattle.statebytes.specs.Layout.{keysFrom, pinsFrom}
 use Rattle.statebytes.specs.State.{panelOf}
 use borrow.Author.Needs.{needs}

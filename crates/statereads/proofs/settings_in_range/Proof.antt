@@ -1,6 +1,6 @@
 use mathlib.Core.Path.{_∙_, ap}
 use Rattle.shapes.specs.Shape.{value}
-use Rattle.panel.specs.Ranges.{partsInRange}
+use Rattle.ranges.specs.Ranges.{partsInRange}
 use Rattle.statebytes.specs.Layout.{cursorFrom, dialsFrom, masksFrom, settingsShape, settingsFrom}
 use borrow.Author.Needs.{needs}
 use Rattle.statereads.proofs.settings_in_range.Statement.{statement}

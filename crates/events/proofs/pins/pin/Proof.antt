@@ -3,7 +3,7 @@ use mathlib.Core.Path.{_≡_, sym, _∙_}
 use native.Mathlib.Omega.{arith}
 use borrow.Author.Tests.{leb-true}
 use Rattle.panel.specs.State.{withPins, withBody}
-use Rattle.panel.specs.Ranges.{inRanges}
+use Rattle.ranges.specs.Ranges.{inRanges}
 use Rattle.answers.specs.Answer.{acceptedCall}
 use Rattle.answers.specs.Checks.{checkedBy}
 use Rattle.answers.proofs.Checks.{Pass, accepted-by, decided-fails, decided-passes, first-one, one-more}
