@@ -15,7 +15,6 @@ use panel::Body;
 use panel::Panel;
 use perform::Performed;
 use register::run::file;
-use register::run::len;
 
 // What a call says, and what is to be filed.
 struct Spoken {
@@ -126,7 +125,7 @@ pub fn line(
 ) -> Said
     ensures { λ r. ⌜ LineCall p (lent (now (piece .entry)) (now (picture .entry)) (now (font .entry)) (now (list .entry)) (now (reply .entry)) (length (now (register .entry)))) (now (register .entry)) r (now (picture .exit)) (now (list .exit)) (now (reply .exit)) (now (register .exit)) ⌝ }
 {
-    let n = len(register);
+    let n = register.len();
     let h = hear(p, piece, picture, font, list, reply, n);
     let u = file(
         register,

@@ -6,10 +6,7 @@ use Rattle.lists.specs.Promise.{Determined}
 use Rattle.lists.proofs.Theorems.{one, and}
 use Rattle.filing.specs.declared.Record.{Record}
 use Rattle.filing.specs.declared.Refusal.{Refusal}
-use Rattle.register.specs.Run.{CountsRecords, FilesIn, FilesBack}
-
-pub len-determined : (register : List Record) → Determined (CountsRecords register)
-len-determined register = one _
+use Rattle.register.specs.Run.{FilesIn, FilesBack}
 
 pub file-determined : (register : List Record) (refused : Bool) (k : Refusal) (unfiled : ℕ)
     → Determined (λ (x : ℕ × List Record). FilesIn register refused k unfiled (x .0) (x .1))

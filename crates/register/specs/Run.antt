@@ -3,7 +3,6 @@ use Prim.Native.Nat.{ℕ, _+_}
 use mathlib.Core.Path.{_≡_}
 use mathlib.Core.Bool.{Bool}
 use mathlib.Core.List.{List}
-use lib.ListN.{length}
 use Rattle.lists.specs.Tests.{when_then_else_, _<?_}
 use Rattle.filing.specs.declared.Record.{Record}
 use Rattle.filing.specs.declared.Refusal.{Refusal}
@@ -24,10 +23,6 @@ slotOf s n = when s .known <? n then s .known else s .free
 -- what the first n records show
 abbrev pub seenAll : Refusal → List Record → ℕ → Seen
 seenAll k records n = record { known = firstRecord (isWith k) records n; free = firstRecord isFree records n }
-
--- what `len` promises
-abbrev pub CountsRecords : List Record → ℕ → Type 0
-CountsRecords register r = r ≡ length register
 
 -- what `bump` promises of the unfiled number that it returns and of the register
 abbrev pub FilesAt : List Record → ℕ → Refusal → ℕ → ℕ → List Record → Type 0

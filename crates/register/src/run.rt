@@ -1,7 +1,7 @@
 // The functions over the run of records itself.
 ghost use mathlib.Core.Path.{_≡_};
 ghost use Rattle.filing.specs.Filing.{slot};
-ghost use Rattle.register.specs.Run.{CountsRecords, FilesAt, FilesIn, FilesBack};
+ghost use Rattle.register.specs.Run.{FilesAt, FilesIn, FilesBack};
 use crate::search::Seen;
 use crate::search::seen_more;
 use crate::search::slot_of;
@@ -15,13 +15,6 @@ use filing::unfiled_more;
 pub struct FiledIn {
     pub register: [Record; RECORDS],
     pub unfiled: u32,
-}
-
-// How many records the run has.
-pub fn len(register: &[Record]) -> usize
-    ensures { λ r. ⌜ CountsRecords (now (register .entry)) r ⌝ }
-{
-    register.len()
 }
 
 // The record to file in; past the end where there is none.
