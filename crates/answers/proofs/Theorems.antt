@@ -7,7 +7,7 @@ use Rattle.panel.specs.declared.Panel.{Panel}
 use Rattle.answers.specs.declared.Answer.{Answer}
 use Rattle.answers.specs.declared.Check.{Check}
 use Rattle.answers.specs.declared.Checked.{Checked}
-use Rattle.answers.specs.Answer.{Tells, TellsDone, Hands, TakesNothing}
+use Rattle.answers.specs.Answer.{Tells, Hands, TakesNothing}
 use Rattle.answers.specs.Checks.{Checks}
 
 pub told-determined : (answer : Answer) → Determined (Tells answer)
@@ -15,9 +15,6 @@ told-determined answer = one _
 
 pub to-file-determined : (answer : Answer) → Determined (Hands answer)
 to-file-determined answer = one _
-
-pub is-done-determined : (answer : Answer) → Determined (TellsDone answer)
-is-done-determined answer = one _
 
 pub also-determined : (c : Checked) (passes : Bool) (check : Check) → Determined (Checks c passes check)
 also-determined c passes check = one _

@@ -85,10 +85,6 @@ withUnfiled s n =
 abbrev pub Tells : Answer → Numbers → Type 0
 Tells a r = r ≡ numbersOf a
 
--- what `is_done` promises
-abbrev pub TellsDone : Answer → Bool → Type 0
-TellsDone a r = r ≡ isDone a
-
 -- what `to_file` promises
 abbrev pub Hands : Answer → Filing → Type 0
 Hands a r = r ≡ filingOf a

@@ -1,7 +1,7 @@
 // What a call says.
 ghost use mathlib.Core.Path.{_≡_};
 ghost use Rattle.verdict.specs.Verdict.{reasonNumber};
-ghost use Rattle.answers.specs.Answer.{checkNumber, Tells, Hands, TellsDone, TakesNothing};
+ghost use Rattle.answers.specs.Answer.{checkNumber, Tells, Hands, TakesNothing};
 ghost use Rattle.answers.specs.Checks.{Checks};
 use filing::Refusal;
 use framing::Counts;
@@ -130,19 +130,6 @@ pub fn told(answer: Answer) -> Numbers
             place,
         },
         Answer::CallRefused(check) => numbered(check_number(check), 0),
-    }
-}
-
-// Whether an answer says that a command was carried out.
-pub fn is_done(answer: Answer) -> bool
-    ensures { λ r. ⌜ TellsDone answer r ⌝ }
-{
-    match answer {
-        Answer::Done(_) => true,
-        Answer::Waiting => false,
-        Answer::Stray(_) => false,
-        Answer::Refused(_, _, _) => false,
-        Answer::CallRefused(_) => false,
     }
 }
 

@@ -61,7 +61,7 @@ fn follow(
     ensures { λ r. ⌜ Follows body h (now (picture .entry)) (now (font .entry)) (now (list .entry)) (now (reply .entry)) r (now (picture .exit)) (now (list .exit)) (now (reply .exit)) ⌝ }
 {
     let answer = h.answer;
-    if answers::is_done(answer) {
+    if let Answer::Done(_) = answer {
         return perform::perform(body, h.packet, picture, font, list, reply);
     }
     Performed {

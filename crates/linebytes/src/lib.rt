@@ -95,7 +95,7 @@ pub fn line(
         Checked::Passes => {
             let h = listen::hear(statebytes::line::read_line(state), piece, reply);
             let answer = h.answer;
-            if answers::is_done(answer) {
+            if let Answer::Done(_) = answer {
                 return carried_out(state, h, picture, font, list, reply, said);
             }
             turned_down(state, h, faults, said)
