@@ -1,4 +1,4 @@
--- A done answer: the call's checks passed, and nothing is replied yet.
+-- What is heard is not refused by number; where it is done, the call's checks passed and nothing is replied yet.
 use Prim.Native.Nat.{ℕ, _<_}
 use mathlib.Core.Path.{_≡_, refl, sym, _∙_, ap}
 use mathlib.Core.Bool.{Bool, true, true≢false}
@@ -29,7 +29,7 @@ done-number (Done command) e = refl
 done-number (Refused command reason place) e = absurd (true≢false (sym e))
 done-number (CallRefused check) e = absurd (true≢false (sym e))
 
--- what is heard is not refused by number
+-- a number that is no check's
 abbrev below : Answer → Type 0
 below a = numbersOf a .number < 10
 
