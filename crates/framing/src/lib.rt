@@ -1,5 +1,6 @@
 // A call's scan of a piece of the line: judge, on a wait take more bytes, end at the first packet or when the piece is used
 // up. The judged bytes stand where they came, in the piece; those of earlier calls stand in a window with the piece's first.
+// Nothing here knows of any command.
 ghost use mathlib.Core.Path.{_≡_};
 ghost use Prim.Native.Nat.{_+_, _≤_};
 ghost use lib.ListN.{length, take, drop};

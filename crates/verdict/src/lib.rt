@@ -1,4 +1,5 @@
-// The verdict on a command: the first reason that applies, with its place, or none.
+// Why a packet is refused: the verdict on a command and its data bytes, the first reason that applies with its place, or none.
+// It stands apart from carrying a command out, since whoever composes commands asks it too.
 ghost use mathlib.Core.Path.{_≡_};
 ghost use Prim.Native.Nat.{_<_, _≤_};
 ghost use lib.ListN.{length};
