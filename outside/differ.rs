@@ -3,13 +3,25 @@
 //! clock; `differ SEED` takes SEED in the clock's place; `differ SEED SEQUENCE` repeats that one sequence.
 
 #[allow(dead_code)]
+#[path = "common.rs"]
+mod common;
+#[allow(dead_code)]
+#[path = "library.rs"]
+mod library;
+#[allow(dead_code)]
 #[path = "reading.rs"]
 mod reading;
+#[allow(dead_code)]
+#[path = "states.rs"]
+mod states;
 #[allow(dead_code)]
 #[path = "traffic.rs"]
 mod traffic;
 
+use common::{expect, hex, print_difference, wrong_size, Buffer, Header};
 use reading::{checksum, FONT, LIST, PICTURE, PIECE_MOST, REGISTER, REPLY, SAID, STATE};
+use states::{possible_keys, program_font, random_font, random_register, random_state, spoil};
+use states::{BOOT, FLASH, GLYPHS, GLYPHS_END, LIVE, PINS, SETTINGS, TEXT, UNFILED};
 use std::collections::{BTreeMap, BTreeSet};
 use std::io::Write;
 use std::process::exit;
@@ -19,90 +31,9 @@ use traffic::{any_packet, code, honest_data, packet, traffic, Rng, COMMANDS};
 const FIXED_SEED: u64 = 635;
 const SEQUENCES: u64 = 24_000;
 
-/// `naupelys.h`.
-mod library {
-    extern "C" {
-        pub fn naupelys_power_on(
-            state: *mut u8,
-            state_size: usize,
-            picture: *mut u8,
-            picture_size: usize,
-            font: *const u8,
-            font_size: usize,
-            said: *mut u8,
-        ) -> u8;
-        pub fn naupelys_line(
-            state: *mut u8,
-            state_size: usize,
-            piece: *const u8,
-            piece_size: usize,
-            picture: *mut u8,
-            picture_size: usize,
-            font: *const u8,
-            font_size: usize,
-            list: *mut u8,
-            list_size: usize,
-            reply: *mut u8,
-            reply_size: usize,
-            faults: *mut u8,
-            faults_size: usize,
-            said: *mut u8,
-        ) -> u8;
-        pub fn naupelys_key(
-            state: *mut u8,
-            state_size: usize,
-            key: u32,
-            down: bool,
-            reply: *mut u8,
-            reply_size: usize,
-            said: *mut u8,
-        ) -> u8;
-        pub fn naupelys_pin(state: *mut u8, state_size: usize, pin: u32, high: bool, said: *mut u8) -> u8;
-    }
-}
-
 // ---------------------------------------------------------------------------------------------------------------------------
 // What is lent to a call
 // ---------------------------------------------------------------------------------------------------------------------------
-
-const GUARD: usize = 16;
-const GUARD_BYTE: u8 = 0xA5;
-
-/// A lent buffer between two guards, which must stay as they are.
-#[derive(Clone, PartialEq)]
-struct Buffer(Vec<u8>);
-
-impl Buffer {
-    fn new(bytes: &[u8]) -> Buffer {
-        let mut all = Vec::with_capacity(bytes.len() + 2 * GUARD);
-        all.extend_from_slice(&[GUARD_BYTE; GUARD]);
-        all.extend_from_slice(bytes);
-        all.extend_from_slice(&[GUARD_BYTE; GUARD]);
-        Buffer(all)
-    }
-
-    fn size(&self) -> usize {
-        self.0.len() - 2 * GUARD
-    }
-
-    fn bytes(&self) -> &[u8] {
-        &self.0[GUARD..self.0.len() - GUARD]
-    }
-
-    fn bytes_mut(&mut self) -> &mut [u8] {
-        let end = self.0.len() - GUARD;
-        &mut self.0[GUARD..end]
-    }
-
-    /// "a pointer whose length is 0 is not followed": then one that leads nowhere.
-    fn pointer(&mut self, nowhere: *mut u8) -> *mut u8 {
-        if self.size() == 0 {
-            nowhere
-        } else {
-            self.bytes_mut().as_mut_ptr()
-        }
-    }
-}
 
 /// The buffers that a call may write.
 #[derive(Clone)]
@@ -284,56 +215,6 @@ impl Test {
         }
         println!("  library said: {:?}", theirs.said());
         println!("  reading said: {:?}", ours.said());
-    }
-}
-
-fn hex(bytes: &[u8]) -> String {
-    let mut text: String = bytes.iter().take(64).map(|byte| format!("{byte:02X} ")).collect();
-    if bytes.len() > 64 {
-        text += "...";
-    }
-    text
-}
-
-fn print_difference(name: &str, ours: &Buffer, theirs: &Buffer) {
-    let different: Vec<usize> = (0..ours.0.len()).filter(|&at| ours.0[at] != theirs.0[at]).collect();
-    let at = different[0];
-    let field = if name == "state" && at >= GUARD { field_of_state(at - GUARD) } else { "" };
-    println!(
-        "  {name}, offset {} {field}: library {}, reading {} ({} bytes differ)",
-        at as isize - GUARD as isize,
-        theirs.0[at],
-        ours.0[at],
-        different.len()
-    );
-}
-
-/// Where the parts stand in the state, and how long settings are.
-const HELD: usize = 1;
-const UNFILED: usize = 26;
-const LIVE: usize = 30;
-const BOOT: usize = 199;
-const KEYS: usize = 368;
-const PINS: usize = 371;
-const FLASH: usize = 374;
-const SETTINGS: usize = 169;
-
-/// Where text and glyphs stand in settings, and where the glyphs end.
-const TEXT: usize = 0;
-const GLYPHS: usize = 80;
-const GLYPHS_END: usize = 144;
-
-fn field_of_state(offset: usize) -> &'static str {
-    match offset {
-        0 => "(held count)",
-        HELD..UNFILED => "(held bytes)",
-        UNFILED..LIVE => "(unfiled)",
-        LIVE..BOOT => "(live settings)",
-        BOOT..KEYS => "(boot state)",
-        KEYS..PINS => "(keys)",
-        PINS..FLASH => "(pins)",
-        FLASH..STATE => "(flash)",
-        _ => "(behind)",
     }
 }
 
@@ -568,188 +449,6 @@ impl Seen {
     }
 }
 
-/// Every command, reason and place that a refusal can have.
-fn possible_keys() -> Vec<[u8; 3]> {
-    let mut keys: Vec<[u8; 3]> = (0..64).filter(|code| !COMMANDS.contains(code)).map(|code| [code, 1, 0]).collect();
-    keys.extend(COMMANDS[1..].iter().map(|&code| [code, 2, 1]));
-    for (code, places) in [(9, 9), (10, 1), (11, 2), (12, 1), (13, 1), (14, 1), (23, 2), (31, 2), (34, 3), (35, 1)] {
-        keys.extend((0..places).map(|index| [code, 3, 2 + index]));
-    }
-    keys.extend((1..20).map(|column| [31, 4, 24 - column]));
-    keys.push([5, 5, 2]);
-    keys
-}
-
-// ---------------------------------------------------------------------------------------------------------------------------
-// States, registers, fonts
-// ---------------------------------------------------------------------------------------------------------------------------
-
-/// The highest value in range of a settings byte; 254 for the contrast. Text is free.
-fn settings_most(offset: usize) -> Option<u8> {
-    match offset {
-        80..=143 => Some(63),
-        144 => Some(19),
-        145 => Some(3),
-        146 => Some(4),
-        147 => Some(254),
-        148 => Some(100),
-        149 | 150 => Some(63),
-        151..=163 => Some(100),
-        164..=168 => Some(15),
-        _ => None,
-    }
-}
-
-/// The same for a byte of the state; held bytes, text, flash and unfiled are free.
-fn state_most(offset: usize) -> Option<u8> {
-    match offset {
-        0 => Some(25),
-        LIVE..BOOT => settings_most(offset - LIVE),
-        BOOT..KEYS => settings_most(offset - BOOT),
-        KEYS..PINS => Some(63),
-        PINS..FLASH => Some(31),
-        _ => None,
-    }
-}
-
-fn is_config(offset: usize) -> bool {
-    (LIVE + 164..LIVE + SETTINGS).contains(&offset) || (BOOT + 164..BOOT + SETTINGS).contains(&offset)
-}
-
-fn random_state(rng: &mut Rng) -> Vec<u8> {
-    let mut state = rng.bytes(STATE);
-    for (offset, byte) in state.iter_mut().enumerate() {
-        if let Some(most) = state_most(offset) {
-            *byte = rng.up_to(most);
-            if is_config(offset) && *byte & 7 == 6 {
-                *byte += 1;
-            }
-        }
-    }
-    for start in [LIVE, BOOT] {
-        match rng.below(4) {
-            0 => {}
-            1 => state[start..start + GLYPHS].fill(code(rng)),
-            _ => state[start..start + GLYPHS].iter_mut().for_each(|byte| *byte = code(rng)),
-        }
-        if rng.one_in(3) {
-            // Glyphs that draw alike.
-            let glyph: Vec<u8> = (0..8).map(|_| rng.up_to(63)).collect();
-            for g in 0..8 {
-                if rng.flag() {
-                    state[start + GLYPHS + 8 * g..start + GLYPHS + 8 * g + 8].copy_from_slice(&glyph);
-                }
-            }
-        }
-    }
-    match rng.below(4) {
-        0 => state.copy_within(LIVE..BOOT, BOOT),
-        1 => {
-            // A boot state that draws the same by other codes: glyph g stands at g + 1.
-            state.copy_within(LIVE..BOOT, BOOT);
-            state[BOOT + GLYPHS..BOOT + GLYPHS_END].rotate_right(8);
-            state[BOOT..BOOT + GLYPHS].iter_mut().filter(|code| **code < 8).for_each(|code| *code = (*code + 1) % 8);
-        }
-        _ => {}
-    }
-    let count = if rng.one_in(3) { 0 } else { rng.up_to(25) };
-    state[0] = count;
-    match rng.below(3) {
-        0 => {}
-        1 => state[HELD..UNFILED].copy_from_slice(&traffic(rng, 25)[..25]),
-        _ => state[HELD..UNFILED].fill(rng.pick(&[0x16, 0x15, 0, 1])),
-    }
-    if rng.one_in(3) {
-        state[HELD + usize::from(count)..UNFILED].fill(0);
-    }
-    let unfiled = if rng.one_in(3) { 0 } else { rng.count() };
-    state[UNFILED..LIVE].copy_from_slice(&unfiled.to_le_bytes());
-    state
-}
-
-/// Pushes one value out of its range.
-fn spoil(rng: &mut Rng, state: &mut [u8]) {
-    let offset = loop {
-        // The settings have most of the bytes; the others get their turn too.
-        let offset = match rng.below(4) {
-            0 => 0,
-            1 => rng.between(KEYS, FLASH - 1),
-            2 => rng.pick(&[LIVE, BOOT]) + rng.between(144, SETTINGS - 1),
-            _ => rng.below(STATE),
-        };
-        if state_most(offset).is_some() {
-            break offset;
-        }
-    };
-    let most = state_most(offset).unwrap();
-    state[offset] = if is_config(offset) && rng.flag() { rng.pick(&[6, 14]) } else { rng.above(most) };
-}
-
-fn random_register(rng: &mut Rng) -> Vec<u8> {
-    let keys = possible_keys();
-    let mut register = vec![0; REGISTER];
-    // How many in 64 are free.
-    let free = rng.pick(&[0, 0, 0, 1, 2, 16, 60, 64]);
-    if free == 64 && rng.flag() {
-        return register;
-    }
-    let few = rng.one_in(4);
-    for record in register.chunks_mut(7) {
-        let key = match rng.below(8) {
-            0 => [rng.byte(), rng.byte(), rng.byte()],
-            _ if few => keys[rng.below(3)],
-            _ => rng.pick(&keys),
-        };
-        record[..3].copy_from_slice(&key);
-        let count = if rng.below(64) < free { 0 } else { rng.count() };
-        record[3..].copy_from_slice(&count.to_le_bytes());
-    }
-    register
-}
-
-/// "a font whose rows for code c all equal c mod 64".
-fn program_font() -> Vec<u8> {
-    (0..FONT).map(|at| (at / 8) as u8 & 63).collect()
-}
-
-fn random_font(rng: &mut Rng) -> Vec<u8> {
-    let mut font = program_font();
-    match rng.below(6) {
-        0 | 1 => {}
-        2 | 3 => rng.fill(&mut font),
-        4 => {
-            // Few drawings, with top bits that draw nothing.
-            let rows = rng.bytes(4);
-            for code in font.chunks_mut(8) {
-                let row = rng.pick(&rows) & 63;
-                code.iter_mut().for_each(|line| *line = row | rng.byte() & 192);
-            }
-        }
-        _ => {
-            // Codes that differ in one line at most.
-            let row = rng.byte();
-            font.fill(row);
-            for code in font.chunks_mut(8) {
-                code[rng.below(8)] = row ^ 1 << rng.below(8);
-            }
-        }
-    }
-    font
-}
-
-/// Another size than the right one.
-fn wrong_size(rng: &mut Rng, right: usize) -> usize {
-    match rng.below(10) {
-        0 | 1 => right - 1,
-        2 | 3 => right + 1,
-        4 => 0,
-        5 => 2 * right,
-        6 => right + 256,
-        7 if rng.one_in(8) => right + 65_536,
-        _ => rng.pick(&[1, right / 2, right - 2, right + 2]),
-    }
-}
-
 // ---------------------------------------------------------------------------------------------------------------------------
 // A panel with all that is lent to it
 // ---------------------------------------------------------------------------------------------------------------------------
@@ -935,13 +634,6 @@ fn sequence(test: &mut Test, seed: u64, number: u64) {
 // The worked cases of the paper
 // ---------------------------------------------------------------------------------------------------------------------------
 
-fn expect<T: PartialEq + std::fmt::Debug>(case: &str, got: T, want: T) {
-    if got != want {
-        println!("\nCASE {case}: both gave {got:?}, the paper says {want:?}");
-        exit(1);
-    }
-}
-
 /// Name, bytes, what is said, reply, held afterwards.
 type LineCase = (&'static str, &'static [u8], Said, &'static [u8], u8);
 
@@ -1064,32 +756,10 @@ fn worked_cases(test: &mut Test) -> u64 {
 // The names of the header
 // ---------------------------------------------------------------------------------------------------------------------------
 
-/// The numbers of `naupelys.h` by their names, and which of them were asked for.
-struct Header {
-    numbers: BTreeMap<&'static str, usize>,
-    asked: BTreeSet<&'static str>,
-}
-
-impl Header {
-    fn read() -> Header {
-        let lines = include_str!("../include/naupelys.h").split(['\n', '{', '}', ',']);
-        let numbers = lines.filter_map(|line| {
-            let (name, number) = line.trim().split_once(" = ")?;
-            Some((name.strip_prefix("NAUPELYS_")?, number.parse().ok()?))
-        });
-        Header { numbers: numbers.collect(), asked: BTreeSet::new() }
-    }
-
-    fn number(&mut self, name: &'static str) -> usize {
-        self.asked.insert(name);
-        *self.numbers.get(name).unwrap_or_else(|| panic!("naupelys.h has no NAUPELYS_{name}"))
-    }
-}
-
 /// Each name of the header stands for the place where the calls put what it names. Gives how many names.
 fn header_names(test: &mut Test) -> u64 {
     test.part = "the header's names";
-    let mut header = Header::read();
+    let mut header = Header::read(include_str!("../include/naupelys.h"), "NAUPELYS_");
     let sizes = [
         ("STATE", STATE),
         ("PIECE_MOST", PIECE_MOST),

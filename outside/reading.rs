@@ -430,7 +430,7 @@ impl Answer {
 const REBOOT: [u8; 3] = [8, 18, 99];
 
 /// Reason and place; the first reason that applies.
-fn refusal(command: u8, data: &[u8]) -> Option<(u8, u8)> {
+pub fn refusal(command: u8, data: &[u8]) -> Option<(u8, u8)> {
     let lengths = match command {
         0 => 0..=22,
         1 | 3 | 4 | 6 | 24 => 0..=0,

@@ -1,5 +1,9 @@
-//! The reading in the library's place, behind `naupelys.h`. `outside/selfcheck` changes one rule in it at a time.
+//! The readings in the library's place, behind `naupelys.h` and `naupelys_host.h`. `outside/selfcheck` changes one rule in
+//! them at a time.
 
+#[allow(dead_code)]
+#[path = "changed_host.rs"]
+mod host_reading;
 #[allow(dead_code)]
 #[path = "changed.rs"]
 mod reading;
@@ -94,4 +98,181 @@ pub unsafe extern "C" fn naupelys_key(
 #[no_mangle]
 pub unsafe extern "C" fn naupelys_pin(state: *mut u8, state_size: usize, pin: u32, high: bool, said: *mut u8) -> u8 {
     reading::pin(lent(state, state_size), pin, high, answer(said))
+}
+
+/// # Safety
+/// As `naupelys_host.h` says.
+#[no_mangle]
+pub unsafe extern "C" fn naupelys_read_reply(bytes: *const u8, size: usize, reading: *mut u8) -> u8 {
+    let (number, values) = host_reading::read_reply(given(bytes, size));
+    *reading.cast() = values;
+    number
+}
+
+unsafe fn say(said: *mut u8, what: [u8; 16]) -> u8 {
+    *answer(said) = what;
+    what[0]
+}
+
+/// # Safety
+/// As `naupelys_host.h` says.
+#[no_mangle]
+pub unsafe extern "C" fn naupelys_compose(
+    code: u32,
+    data: *const u8,
+    data_size: usize,
+    packet: *mut u8,
+    packet_size: usize,
+    said: *mut u8,
+) -> u8 {
+    say(said, host_reading::compose(code, given(data, data_size), lent(packet, packet_size)))
+}
+
+/// # Safety
+/// As `naupelys_host.h` says.
+#[no_mangle]
+pub unsafe extern "C" fn naupelys_compose_ping(
+    data: *const u8,
+    data_size: usize,
+    packet: *mut u8,
+    packet_size: usize,
+    said: *mut u8,
+) -> u8 {
+    say(said, host_reading::compose_ping(given(data, data_size), lent(packet, packet_size)))
+}
+
+/// # Safety
+/// As `naupelys_host.h` says.
+#[no_mangle]
+pub unsafe extern "C" fn naupelys_compose_flash(
+    flash: *const u8,
+    flash_size: usize,
+    packet: *mut u8,
+    packet_size: usize,
+    said: *mut u8,
+) -> u8 {
+    say(said, host_reading::compose_flash(given(flash, flash_size), lent(packet, packet_size)))
+}
+
+/// # Safety
+/// As `naupelys_host.h` says.
+#[no_mangle]
+pub unsafe extern "C" fn naupelys_compose_reboot(packet: *mut u8, packet_size: usize, said: *mut u8) -> u8 {
+    say(said, host_reading::compose_reboot(lent(packet, packet_size)))
+}
+
+/// # Safety
+/// As `naupelys_host.h` says.
+#[no_mangle]
+pub unsafe extern "C" fn naupelys_compose_glyph(
+    index: u8,
+    rows: *const u8,
+    rows_size: usize,
+    packet: *mut u8,
+    packet_size: usize,
+    said: *mut u8,
+) -> u8 {
+    say(said, host_reading::compose_glyph(index, given(rows, rows_size), lent(packet, packet_size)))
+}
+
+/// # Safety
+/// As `naupelys_host.h` says.
+#[no_mangle]
+pub unsafe extern "C" fn naupelys_compose_memory(address: u8, packet: *mut u8, packet_size: usize, said: *mut u8) -> u8 {
+    say(said, host_reading::compose_memory(address, lent(packet, packet_size)))
+}
+
+/// # Safety
+/// As `naupelys_host.h` says.
+#[no_mangle]
+pub unsafe extern "C" fn naupelys_compose_cursor(
+    column: u8,
+    row: u8,
+    packet: *mut u8,
+    packet_size: usize,
+    said: *mut u8,
+) -> u8 {
+    say(said, host_reading::compose_cursor(column, row, lent(packet, packet_size)))
+}
+
+/// # Safety
+/// As `naupelys_host.h` says.
+#[no_mangle]
+pub unsafe extern "C" fn naupelys_compose_style(style: u8, packet: *mut u8, packet_size: usize, said: *mut u8) -> u8 {
+    say(said, host_reading::compose_style(style, lent(packet, packet_size)))
+}
+
+/// # Safety
+/// As `naupelys_host.h` says.
+#[no_mangle]
+pub unsafe extern "C" fn naupelys_compose_contrast(contrast: u8, packet: *mut u8, packet_size: usize, said: *mut u8) -> u8 {
+    say(said, host_reading::compose_contrast(contrast, lent(packet, packet_size)))
+}
+
+/// # Safety
+/// As `naupelys_host.h` says.
+#[no_mangle]
+pub unsafe extern "C" fn naupelys_compose_backlight(
+    backlight: u8,
+    packet: *mut u8,
+    packet_size: usize,
+    said: *mut u8,
+) -> u8 {
+    say(said, host_reading::compose_backlight(backlight, lent(packet, packet_size)))
+}
+
+/// # Safety
+/// As `naupelys_host.h` says.
+#[no_mangle]
+pub unsafe extern "C" fn naupelys_compose_masks(
+    press: u8,
+    release: u8,
+    packet: *mut u8,
+    packet_size: usize,
+    said: *mut u8,
+) -> u8 {
+    say(said, host_reading::compose_masks(press, release, lent(packet, packet_size)))
+}
+
+/// # Safety
+/// As `naupelys_host.h` says.
+#[no_mangle]
+pub unsafe extern "C" fn naupelys_compose_text(
+    column: u8,
+    row: u8,
+    text: *const u8,
+    text_size: usize,
+    packet: *mut u8,
+    packet_size: usize,
+    said: *mut u8,
+) -> u8 {
+    say(said, host_reading::compose_text(column, row, given(text, text_size), lent(packet, packet_size)))
+}
+
+/// # Safety
+/// As `naupelys_host.h` says.
+#[no_mangle]
+pub unsafe extern "C" fn naupelys_compose_pin(pin: u8, level: u8, packet: *mut u8, packet_size: usize, said: *mut u8) -> u8 {
+    say(said, host_reading::compose_pin(pin, level, lent(packet, packet_size)))
+}
+
+/// # Safety
+/// As `naupelys_host.h` says.
+#[no_mangle]
+pub unsafe extern "C" fn naupelys_compose_pin_config(
+    pin: u8,
+    level: u8,
+    config: u8,
+    packet: *mut u8,
+    packet_size: usize,
+    said: *mut u8,
+) -> u8 {
+    say(said, host_reading::compose_pin_config(pin, level, config, lent(packet, packet_size)))
+}
+
+/// # Safety
+/// As `naupelys_host.h` says.
+#[no_mangle]
+pub unsafe extern "C" fn naupelys_compose_read_pin(pin: u8, packet: *mut u8, packet_size: usize, said: *mut u8) -> u8 {
+    say(said, host_reading::compose_read_pin(pin, lent(packet, packet_size)))
 }

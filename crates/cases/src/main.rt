@@ -9,10 +9,14 @@
 // and not over bytes. "press" and "release" name a key, "high" and "low" a pin. "state" prints the state, "faults" the
 // register, "cell" a cell's bytes, "picture" the checksum of the whole picture. "sizes", "power" and "lend" try buffers of
 // other sizes; "set", "count" and "unfiled" set a value that no command sets, "font" a code's rows.
+// Of the host's side: "ask" takes the first byte as a code and composes it with the rest, "text" the first two as a column and a
+// row; both print what the call says and the packet. "read" prints what a panel means by the bytes: the number, the kind, the
+// command, how many values and the values.
 
 mod buffers;
 mod device;
 mod frames;
+mod hosts;
 mod show;
 mod text;
 mod value;
@@ -35,6 +39,7 @@ fn run(script: &[u8]) {
         held = frames::run(word, bytes, held);
         buffers = device::run(word, line, bytes, buffers);
         show::run(word, line, buffers);
+        hosts::run(word, bytes);
     }
 }
 

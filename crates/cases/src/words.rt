@@ -48,7 +48,13 @@ pub const COMPOSE: usize = 20;
 
 pub const SUM: usize = 21;
 
-const OTHER: usize = 22;
+pub const ASK: usize = 22;
+
+pub const TEXT: usize = 23;
+
+pub const READ: usize = 24;
+
+const OTHER: usize = 25;
 
 // How many words of the list stand before the word; a blank stands behind each.
 fn place(word: &[u8], list: &[u8]) -> usize {
@@ -79,7 +85,7 @@ pub fn number(line: &[u8]) -> usize {
     let word = &line[..end];
     let n = place(
         word,
-        b"# set unfiled count font line value faults cuts press release lend high low sizes power state cell picture scan compose sum ",
+        b"# set unfiled count font line value faults cuts press release lend high low sizes power state cell picture scan compose sum ask text read ",
     );
     if (PRESS <= n) & (n < OTHER) {
         crate::text::word(word);

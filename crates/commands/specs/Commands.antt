@@ -1,0 +1,127 @@
+-- The commands as values: one definition gives each its code and its data, and is read backwards.
+use Prim.Native.Nat.{ℕ}
+use mathlib.Core.Path.{_≡_}
+use mathlib.Core.Bool.{Bool, true, false, _&&_}
+use mathlib.Core.List.{List, [], _∷_, _++_}
+use lib.ListN.{length, drop, getD}
+use Rattle.lists.specs.Tests.{when_then_else_, _≤?_, _=?_}
+use Rattle.packets.specs.Packet.{padded}
+use Rattle.verdict.specs.declared.Verdict.{Verdict}
+use Rattle.verdict.specs.declared.Verdict.the-variants as verdicts
+use Rattle.verdict.specs.Verdict.{verdictOf}
+use Rattle.composer.specs.declared.Composing.{Composing}
+use Rattle.composer.specs.Compose.{ComposesFor}
+use Rattle.commands.specs.declared.Command.{Command}
+use Rattle.commands.specs.declared.Command.the-variants.{Ping, Version, WriteFlash, ReadFlash, StoreBoot, Reboot, Clear, SetGlyph, ReadMemory, SetCursor, SetStyle, SetContrast, SetBacklight, SetMasks, Poll, WriteText, SetPin, ConfigurePin, ReadPin}
+use Rattle.commands.specs.declared.Head.{Head}
+use Rattle.commands.specs.declared.Named.{Named}
+use Rattle.commands.specs.declared.Named.the-variants.{Is, None}
+
+-- the most values that stand in front of the bytes that follow
+abbrev pub valuesMost : ℕ
+valuesMost = 3
+
+-- how a command stands in a packet: its code and its values, which are all of its data, or which bytes follow
+pub data Form : Type 0 where
+  exactly : (code : ℕ) (values : List ℕ) → Form
+  followed : (code : ℕ) (values : List ℕ) → Form
+
+-- document 01's table, read as values
+unfoldable pub formOf : Command → Form
+formOf Ping = followed 0 []
+formOf Version = exactly 1 []
+formOf WriteFlash = followed 2 []
+formOf ReadFlash = exactly 3 []
+formOf StoreBoot = exactly 4 []
+formOf Reboot = exactly 5 (8 ∷ 18 ∷ 99 ∷ [])
+formOf Clear = exactly 6 []
+formOf (SetGlyph index) = followed 9 (index ∷ [])
+formOf (ReadMemory address) = exactly 10 (address ∷ [])
+formOf (SetCursor column row) = exactly 11 (column ∷ row ∷ [])
+formOf (SetStyle style) = exactly 12 (style ∷ [])
+formOf (SetContrast contrast) = exactly 13 (contrast ∷ [])
+formOf (SetBacklight backlight) = exactly 14 (backlight ∷ [])
+formOf (SetMasks press release) = exactly 23 (press ∷ release ∷ [])
+formOf Poll = exactly 24 []
+formOf (WriteText column row) = followed 31 (column ∷ row ∷ [])
+formOf (SetPin pin level) = exactly 34 (pin ∷ level ∷ [])
+formOf (ConfigurePin pin level config) = exactly 34 (pin ∷ level ∷ config ∷ [])
+formOf (ReadPin pin) = exactly 35 (pin ∷ [])
+
+abbrev pub formCode : Form → ℕ
+formCode (exactly code values) = code
+formCode (followed code values) = code
+
+abbrev pub formData : Form → List ℕ → List ℕ
+formData (exactly code values) bytes = values
+formData (followed code values) bytes = values ++ bytes
+
+-- the code and the data of a command; of the bytes lent beside it only a ping, the flash, a glyph and a text take some
+abbrev pub codeOf : Command → ℕ
+codeOf c = formCode (formOf c)
+
+abbrev pub dataOf : Command → List ℕ → List ℕ
+dataOf c bytes = formData (formOf c) bytes
+
+-- backwards: whether a code and so many data bytes have this form
+abbrev pub hasForm : ℕ → ℕ → Form → Bool
+hasForm code n (exactly c values) = (code =? c) && (n =? length values)
+hasForm code n (followed c values) = (code =? c) && (length values ≤? n)
+
+-- each command once, with the values a, b and c
+abbrev pub candidates : ℕ → ℕ → ℕ → List Command
+candidates a b c =
+    Ping
+    ∷ Version
+    ∷ WriteFlash
+    ∷ ReadFlash
+    ∷ StoreBoot
+    ∷ Reboot
+    ∷ Clear
+    ∷ SetGlyph a
+    ∷ ReadMemory a
+    ∷ SetCursor a b
+    ∷ SetStyle a
+    ∷ SetContrast a
+    ∷ SetBacklight a
+    ∷ SetMasks a b
+    ∷ Poll
+    ∷ WriteText a b
+    ∷ SetPin a b
+    ∷ ConfigurePin a b c
+    ∷ ReadPin a
+    ∷ []
+
+unfoldable pub firstWith : ℕ → ℕ → List Command → Named
+firstWith code n [] = None
+firstWith code n (c ∷ cs) = when hasForm code n (formOf c) then Is c else firstWith code n cs
+
+-- the command of a code and data that the panel allows
+unfoldable pub namedBy : Verdict → ℕ → List ℕ → Named
+namedBy verdicts.Allowed code d = firstWith code (length d) (candidates (getD d 0 0) (getD d 1 0) (getD d 2 0))
+namedBy (verdicts.Refused reason place) code d = None
+
+-- and the bytes that follow its values
+abbrev pub formBytes : Form → List ℕ → List ℕ
+formBytes (exactly code values) d = []
+formBytes (followed code values) d = drop (length values) d
+
+abbrev pub bytesIn : Command → List ℕ → List ℕ
+bytesIn c d = formBytes (formOf c) d
+
+-- how the code has a form: at most three values
+abbrev pub headOf : Form → Head
+headOf (exactly code values) = record { code = code; count = length values; values = padded valuesMost values; follows = false }
+headOf (followed code values) = record { code = code; count = length values; values = padded valuesMost values; follows = true }
+
+-- what `compose` promises of its answer and of the buffer
+abbrev pub ComposesCommand : List ℕ → Command → List ℕ → Composing → List ℕ → Type 0
+ComposesCommand packet c bytes = ComposesFor packet (codeOf c) (dataOf c bytes)
+
+-- what `command_of` promises
+abbrev pub ReadsCommand : ℕ → List ℕ → Named → Type 0
+ReadsCommand code d r = r ≡ namedBy (verdictOf code d) code d
+
+-- what `bytes_of` promises of the part that it returns
+abbrev pub ReadsBytes : Command → List ℕ → List ℕ → Type 0
+ReadsBytes c d r = r ≡ bytesIn c d

@@ -1,0 +1,3 @@
+pub mod Verdicts
+pub mod Ways
+pub mod Theorems

@@ -1,0 +1,3 @@
+pub mod OnePacket
+pub mod Runs
+pub mod Theorems
