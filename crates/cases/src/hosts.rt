@@ -7,7 +7,7 @@ use crate::text::word;
 use crate::words::ASK;
 use crate::words::READ;
 use crate::words::TEXT;
-use host::READING;
+use hostreads::READING;
 use packets::REPLY;
 use saidbytes::SAID;
 
@@ -31,17 +31,18 @@ fn text(given: &[u8]) {
     let mut packet = [0u8; REPLY];
     let mut said = [0u8; SAID];
     if 1 < given.len() {
-        host::naupelys_compose_text(given[0], given[1], &given[2..], &mut packet, &mut said);
+        hostscreen::naupelys_compose_text(given[0], given[1], &given[2..], &mut packet, &mut said);
     }
     told(&said, &packet);
 }
 
 fn read(given: &[u8]) {
     let mut out = [0u8; READING];
-    let number = host::naupelys_read_reply(given, &mut out);
+    let number = hostreads::naupelys_read_reply(given, &mut out);
     labelled(b" ", lists::wide(number));
     word(b":");
-    bytes(&out, 0, 3 + lists::wide(out[2]), false);
+    let behind = 3 + lists::wide(out[2]);
+    bytes(&out, 0, behind, false);
     end();
 }
 
