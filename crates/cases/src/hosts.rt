@@ -22,7 +22,12 @@ fn ask(given: &[u8]) {
     let mut packet = [0u8; REPLY];
     let mut said = [0u8; SAID];
     if 0 < given.len() {
-        host::naupelys_compose(given[0] as u32, &given[1..], &mut packet, &mut said);
+        host::naupelys_compose(
+            lists::wide(given[0]) as u32,
+            &given[1..],
+            &mut packet,
+            &mut said,
+        );
     }
     told(&said, &packet);
 }
@@ -36,14 +41,19 @@ fn text(given: &[u8]) {
     told(&said, &packet);
 }
 
+// Kind, command, how many values, and the values.
+fn shown(out: &[u8; READING]) {
+    let behind = 3 + lists::wide(out[2]);
+    bytes(out, 0, behind, false);
+    end();
+}
+
 fn read(given: &[u8]) {
     let mut out = [0u8; READING];
     let number = hostreads::naupelys_read_reply(given, &mut out);
     labelled(b" ", lists::wide(number));
     word(b":");
-    let behind = 3 + lists::wide(out[2]);
-    bytes(&out, 0, behind, false);
-    end();
+    shown(&out);
 }
 
 pub fn run(name: usize, given: &[u8]) {
