@@ -13,22 +13,20 @@ use lib.Seq.{take-all, getD-take}
 use Rattle.lists.specs.Tests.{when_then_else_}
 use Rattle.lists.proofs.Laws.{when-true}
 use Rattle.packets.specs.declared.Judgement.the-variants.{Wait}
-use Rattle.packets.specs.Packet.{contentMost, replySize, packetBytes, packetOf, contentOf}
+use Rattle.packets.specs.Packet.{contentMost, packetBytes, packetOf, contentOf}
 use Rattle.packets.specs.Hold.{held, holdOf}
 use Rattle.packets.specs.Judge.{lengthByte, judge}
 use Rattle.packets.proofs.Bytes.{packet-length, packet-content}
 use Rattle.packets.proofs.Judgements.{shown, short, part}
 use Rattle.packets.proofs.Composing.{composed-judged}
 use Rattle.framing.specs.declared.Scanned.{Scanned}
-use Rattle.framing.specs.Scan.{Outcome, packet, scan, scannedOf, pieceMost, Scans}
+use Rattle.framing.specs.Scan.{scan, scannedOf, pieceMost, Scans}
 use Rattle.framing.proofs.Steps.{takes, finds}
 use Rattle.filing.specs.declared.Record.{Record}
-use Rattle.filing.specs.Filing.{registerRecords}
 use Rattle.verdict.specs.declared.Verdict.{Verdict}
 use Rattle.verdict.specs.declared.Verdict.the-variants as verdicts
 use Rattle.verdict.specs.declared.Reason.{Reason}
 use Rattle.verdict.specs.Verdict.{verdictOf}
-use Rattle.picture.specs.Draw.{cellCount, pictureSize, fontSize}
 use Rattle.panel.specs.declared.Panel.{Panel}
 use Rattle.panel.specs.State.{lineHolding}
 use Rattle.ranges.specs.Ranges.{inRanges}
@@ -45,12 +43,9 @@ use Rattle.linecall.specs.Line.{Lent, lineHeard, lineSaid, linePicture, lineLis
 use Rattle.theorems.specs.Story.{replied}
 use Rattle.theorems.proofs.Outcomes.{testsOf, scanOf}
 use Rattle.exchange.specs.Writes.{dataHeard}
+use Rattle.exchange.specs.Heard.{alone, RightSizes}
 use Rattle.exchange.proofs.Replied.{content-back, done-writes, refused-writes}
 use Rattle.exchange.proofs.Data.{reply-short}
-
--- what a scan comes to that finds the packet, with nothing dropped and nothing held behind it
-abbrev pub alone : ℕ → List ℕ → Outcome
-alone kind content = record { ending = packet kind content; hold = []; taken = length content + 4; dropped = 0; checked = length content + 2 }
 
 module _ (kind : ℕ) (content : List ℕ) (few : length content ≤ contentMost) where
   -- every part of a packet waits for the rest
@@ -75,14 +70,6 @@ module _ (kind : ℕ) (content : List ℕ) (few : length content ≤ contentMost
 pub scan-alone : (kind : ℕ) (content : List ℕ) → length content ≤ contentMost → (s : Scanned) → Scans (holdOf []) (packetBytes kind content) s → s ≡ scannedOf (alone kind content)
 scan-alone kind content few s q =
     q ∙ ap (λ (bytes : List ℕ). scannedOf (scan [] bytes)) (take-all pieceMost (packetBytes kind content) (omega (arith, packet-length kind content))) ∙ ap scannedOf (scan-composed kind content few)
-
--- what a line call has to be lent: "Line calls check 10 to 16"
-pub record RightSizes (l : Lent) : Type 0 where
-  pub picture : length (l .picture) ≡ pictureSize
-  pub font : length (l .font) ≡ fontSize
-  pub list : length (l .list) ≡ cellCount
-  pub reply : length (l .reply) ≡ replySize
-  pub records : l .records ≡ registerRecords
 
 -- Every line call can be made: what it then says, and that its promise allows it.
 abbrev pub saidOn : Panel → Lent → List Record → Said

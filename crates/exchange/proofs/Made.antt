@@ -28,7 +28,8 @@ use Rattle.reading.specs.declared.Meaning.the-variants.{Reply}
 use Rattle.reading.specs.Reading.{readingWith}
 use Rattle.exchange.specs.Writes.{Possible, replyMeant, errorMeant, reportMeant, CallsLine, Writes, inReply, inRefusal, inReport}
 use Rattle.exchange.proofs.AreBytes.{packet-bytes}
-use Rattle.exchange.proofs.Heard.{RightSizes, saidOn, line-made, composed-data, composed-done, composed-replied, composed-refused, composed-error}
+use Rattle.exchange.specs.Heard.{RightSizes}
+use Rattle.exchange.proofs.Heard.{saidOn, line-made, composed-data, composed-done, composed-replied, composed-refused, composed-error}
 use Rattle.exchange.proofs.Reported.{report-writes}
 
 -- buffers of zeros, and a register whose records are free

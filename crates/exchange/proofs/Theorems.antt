@@ -9,9 +9,7 @@ use native.Mathlib.Omega.{arith}
 use lib.ListN.{length, take}
 use Rattle.shapes.specs.Shape.{Bytes}
 use Rattle.packets.specs.Packet.{packetBytes}
-use Rattle.packets.specs.Hold.{held, holdOf}
-use Rattle.framing.specs.declared.Scanned.{Scanned}
-use Rattle.framing.specs.Scan.{scannedOf, Scans}
+use Rattle.packets.specs.Hold.{held}
 use Rattle.filing.specs.declared.Record.{Record}
 use Rattle.verdict.specs.declared.Reason.{Reason}
 use Rattle.verdict.specs.declared.Verdict.the-variants as verdicts
@@ -30,20 +28,13 @@ use Rattle.reading.specs.declared.Meaning.the-variants.{Unreadable}
 use Rattle.reading.specs.declared.Reading.{Reading}
 use Rattle.reading.specs.Reading.{readOf}
 use Rattle.exchange.specs.Writes.{Writes}
-use Rattle.exchange.proofs.Heard.{alone, RightSizes, scan-alone, composed-answer, composed-done}
+use Rattle.exchange.specs.Heard.{RightSizes, IsHeard}
+use Rattle.exchange.proofs.Heard.{scan-alone, composed-answer, composed-done}
 use Rattle.exchange.proofs.Refusals as refusals
 use Rattle.exchange.proofs.Read as read
 use Rattle.exchange.proofs.Found as found
 
--- What is composed is heard: a scan with nothing held finds it as one packet of that code and data, with nothing dropped and nothing
--- held behind; the panel's verdict allows it; and a line call on it, from any panel in its ranges that holds nothing, answers done.
-pub record IsHeard (code : ℕ) (d bytes : List ℕ) : Type 0 where
-  pub found : (s : Scanned) → Scans (holdOf []) bytes s → s ≡ scannedOf (alone code d)
-  pub allowed : verdictOf code d ≡ verdicts.Allowed
-  pub done : (p : Panel) (l : Lent) → inRanges p ≡ true → held (p .line .hold) ≡ [] → RightSizes l → l .piece ≡ bytes
-      → (register : List Record) (r : Said) (picture′ list′ reply′ : List ℕ) (register′ : List Record) → LineCall p l register r picture′ list′ reply′ register′
-      → r .answer ≡ answers.Done code
-
+-- What compose writes is heard.
 pub composed-is-heard : (packet : List ℕ) (code : ℕ) (d : List ℕ) (command size : ℕ) (packet′ : List ℕ) → ComposesFor packet code d (Written command size) packet′
     → IsHeard code d (take size packet′)
 composed-is-heard packet code d command size packet′ w =
