@@ -19,3 +19,4 @@ mod SomeKey
 mod Found
 mod Refusals
 pub mod Theorems
+pub mod Library
