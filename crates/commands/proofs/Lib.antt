@@ -1,2 +1,3 @@
 pub mod Forms
+mod Names
 pub mod Theorems

@@ -20,6 +20,7 @@ use Rattle.commands.specs.declared.Command.{Command}
 use Rattle.commands.specs.declared.Command.the-variants.{Ping, Version, WriteFlash, ReadFlash, StoreBoot, Reboot, Clear, SetGlyph, ReadMemory, SetCursor, SetStyle, SetContrast, SetBacklight, SetMasks, Poll, WriteText, SetPin, ConfigurePin, ReadPin}
 use Rattle.commands.specs.declared.Named.{Named}
 use Rattle.commands.specs.declared.Named.the-variants.{Is}
+use Rattle.commands.proofs.Names.{named}
 use Rattle.commands.specs.Commands.{Form, exactly, followed, formOf, formData, formBytes, codeOf, dataOf, bytesIn, headOf, candidates, firstWith, namedBy, ComposesCommand, ReadsCommand, ReadsBytes}
 
 -- For each public function, any two results that its promise allows are equal, the lent buffer included.
@@ -68,3 +69,10 @@ unfolding namedBy
 values-come-back packet c bytes command size packet′ w r e =
     let v = written-allowed packet (codeOf c) (dataOf c bytes) command size packet′ w in
     (e ∙ rw v (found-again c bytes), λ t b q. q ∙ bytes-again (formOf c) bytes t)
+
+-- And the other way round: every packet that the panel allows is a command's, and composed again from what is read backwards it has
+-- the same code and data.
+pub allowed-is-a-command : (code : ℕ) (d : List ℕ) → verdictOf code d ≡ verdicts.Allowed
+    → (c : Command) × ((namedBy (verdictOf code d) code d ≡ Is c) × ((codeOf c ≡ code) × (dataOf c (bytesIn c d) ≡ d)))
+unfolding namedBy
+allowed-is-a-command code d v = let n = named code d v in (n .0, (rw v (n .1 .0), n .1 .1))

@@ -21,7 +21,7 @@ use Rattle.commands.specs.declared.Named.the-variants.{Is, None}
 abbrev pub valuesMost : ℕ
 valuesMost = 3
 
--- how a command stands in a packet: its code and its values, which are all of its data, or which bytes follow
+-- how a command stands in a packet: its code, and the values that its data begins with; they are all of it, or bytes follow
 pub data Form : Type 0 where
   exactly : (code : ℕ) (values : List ℕ) → Form
   followed : (code : ℕ) (values : List ℕ) → Form
@@ -68,7 +68,7 @@ abbrev pub hasForm : ℕ → ℕ → Form → Bool
 hasForm code n (exactly c values) = (code =? c) && (n =? length values)
 hasForm code n (followed c values) = (code =? c) && (length values ≤? n)
 
--- each command once, with the values a, b and c
+-- each command once, with its values from a, b and c
 abbrev pub candidates : ℕ → ℕ → ℕ → List Command
 candidates a b c =
     Ping
@@ -92,6 +92,7 @@ candidates a b c =
     ∷ ReadPin a
     ∷ []
 
+-- the first of them with that code and so many data bytes
 unfoldable pub firstWith : ℕ → ℕ → List Command → Named
 firstWith code n [] = None
 firstWith code n (c ∷ cs) = when hasForm code n (formOf c) then Is c else firstWith code n cs
