@@ -1,3 +1,2 @@
 pub mod Forms
-mod Names
 pub mod Theorems

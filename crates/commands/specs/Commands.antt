@@ -1,21 +1,15 @@
--- The commands as values: one definition gives each its code and its data, and is read backwards.
+-- The commands as values: one definition gives each its code and its data.
 use Prim.Native.Nat.{ℕ}
 use mathlib.Core.Path.{_≡_}
-use mathlib.Core.Bool.{Bool, true, false, _&&_}
+use mathlib.Core.Bool.{true, false}
 use mathlib.Core.List.{List, [], _∷_, _++_}
-use lib.ListN.{length, drop, getD}
-use Rattle.lists.specs.Tests.{when_then_else_, _≤?_, _=?_}
+use lib.ListN.{length, drop}
 use Rattle.packets.specs.Packet.{padded}
-use Rattle.verdict.specs.declared.Verdict.{Verdict}
-use Rattle.verdict.specs.declared.Verdict.the-variants as verdicts
-use Rattle.verdict.specs.Verdict.{verdictOf}
 use Rattle.composer.specs.declared.Composing.{Composing}
 use Rattle.composer.specs.Compose.{ComposesFor}
 use Rattle.commands.specs.declared.Command.{Command}
 use Rattle.commands.specs.declared.Command.the-variants.{Ping, Version, WriteFlash, ReadFlash, StoreBoot, Reboot, Clear, SetGlyph, ReadMemory, SetCursor, SetStyle, SetContrast, SetBacklight, SetMasks, Poll, WriteText, SetPin, ConfigurePin, ReadPin}
 use Rattle.commands.specs.declared.Head.{Head}
-use Rattle.commands.specs.declared.Named.{Named}
-use Rattle.commands.specs.declared.Named.the-variants.{Is, None}
 
 -- the most values that stand in front of the bytes that follow
 abbrev pub valuesMost : ℕ
@@ -63,46 +57,7 @@ codeOf c = formCode (formOf c)
 abbrev pub dataOf : Command → List ℕ → List ℕ
 dataOf c bytes = formData (formOf c) bytes
 
--- backwards: whether a code and so many data bytes have this form
-abbrev pub hasForm : ℕ → ℕ → Form → Bool
-hasForm code n (exactly c values) = (code =? c) && (n =? length values)
-hasForm code n (followed c values) = (code =? c) && (length values ≤? n)
-
--- each command once, with its values from a, b and c
-abbrev pub candidates : ℕ → ℕ → ℕ → List Command
-candidates a b c =
-    Ping
-    ∷ Version
-    ∷ WriteFlash
-    ∷ ReadFlash
-    ∷ StoreBoot
-    ∷ Reboot
-    ∷ Clear
-    ∷ SetGlyph a
-    ∷ ReadMemory a
-    ∷ SetCursor a b
-    ∷ SetStyle a
-    ∷ SetContrast a
-    ∷ SetBacklight a
-    ∷ SetMasks a b
-    ∷ Poll
-    ∷ WriteText a b
-    ∷ SetPin a b
-    ∷ ConfigurePin a b c
-    ∷ ReadPin a
-    ∷ []
-
--- the first of them with that code and so many data bytes
-unfoldable pub firstWith : ℕ → ℕ → List Command → Named
-firstWith code n [] = None
-firstWith code n (c ∷ cs) = when hasForm code n (formOf c) then Is c else firstWith code n cs
-
--- the command of a code and data that the panel allows
-unfoldable pub namedBy : Verdict → ℕ → List ℕ → Named
-namedBy verdicts.Allowed code d = firstWith code (length d) (candidates (getD d 0 0) (getD d 1 0) (getD d 2 0))
-namedBy (verdicts.Refused reason place) code d = None
-
--- and the bytes that follow its values
+-- backwards: the bytes that follow a command's values in its data
 abbrev pub formBytes : Form → List ℕ → List ℕ
 formBytes (exactly code values) d = []
 formBytes (followed code values) d = drop (length values) d
@@ -118,10 +73,6 @@ headOf (followed code values) = record { code = code; count = length values; val
 -- what `compose` promises of its answer and of the buffer
 abbrev pub ComposesCommand : List ℕ → Command → List ℕ → Composing → List ℕ → Type 0
 ComposesCommand packet c bytes = ComposesFor packet (codeOf c) (dataOf c bytes)
-
--- what `command_of` promises
-abbrev pub ReadsCommand : ℕ → List ℕ → Named → Type 0
-ReadsCommand code d r = r ≡ namedBy (verdictOf code d) code d
 
 -- what `bytes_of` promises of the part that it returns
 abbrev pub ReadsBytes : Command → List ℕ → List ℕ → Type 0

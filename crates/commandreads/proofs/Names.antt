@@ -17,11 +17,12 @@ use Rattle.verdict.specs.declared.Verdict.the-variants as verdicts
 use Rattle.verdict.specs.Verdict.{isReboot, wholeVerdict, verdictOf}
 use Rattle.verdict.proofs.Reasons.{Seen, together, see}
 use Rattle.composer.proofs.Verdicts.{allowed-fits}
 use Rattle.commands.specs.declared.Command.{Command}
 use Rattle.commands.specs.declared.Command.the-variants.{Reboot}
-use Rattle.commands.specs.declared.Named.{Named}
-use Rattle.commands.specs.declared.Named.the-variants.{Is, None}
-use Rattle.commands.specs.Commands.{Form, exactly, followed, formOf, codeOf, dataOf, bytesIn, formCode, formData, formBytes, hasForm, candidates, firstWith}
+use Rattle.commandreads.specs.declared.Named.{Named}
+use Rattle.commandreads.specs.declared.Named.the-variants.{Is, None}
+use Rattle.commands.specs.Commands.{Form, exactly, followed, formOf, codeOf, dataOf, bytesIn, formCode, formData, formBytes}
+use Rattle.commandreads.specs.Backwards.{hasForm, candidates, firstWith}
 
 -- R, given what P says of each of a list: as many arguments as the list is long
 abbrev Given : {A : Type 0} → (A → Type 0) → List A → Type 0 → Type 0

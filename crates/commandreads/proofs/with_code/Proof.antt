@@ -7,9 +7,10 @@ use Rattle.lists.specs.Tests.{when_then_else_, _≤?_, _=?_}
 use Rattle.table.specs.declared.Row.{Row}
 use Rattle.table.specs.Table.{table, lookUp}
 use Rattle.table.proofs.Rows.{no-row}
-use Rattle.commands.specs.Commands.{formOf, firstWith}
-use Rattle.commands.proofs.with_code.Statement.{statement}
-use Rattle.commands.proofs.with_code.Tie as tie
+use Rattle.commands.specs.Commands.{formOf}
+use Rattle.commandreads.specs.Backwards.{firstWith}
+use Rattle.commandreads.proofs.with_code.Statement.{statement}
+use Rattle.commandreads.proofs.with_code.Tie as tie
 
 -- as many data bytes as the row of the code allows
 abbrev Sized : ℕ → ℕ → Type 0

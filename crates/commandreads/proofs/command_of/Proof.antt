@@ -3,9 +3,9 @@ use borrow.Author.Needs.{needs}
 use Rattle.verdict.specs.declared.Verdict.the-variants.{Allowed}
 use Rattle.verdict.specs.Verdict.{verdictOf}
 use Rattle.composer.proofs.Verdicts.{allowed-fits}
-use Rattle.commands.specs.Commands.{namedBy}
-use Rattle.commands.proofs.command_of.Statement.{statement}
-use Rattle.commands.proofs.command_of.Tie as tie
+use Rattle.commandreads.specs.Backwards.{namedBy}
+use Rattle.commandreads.proofs.command_of.Statement.{statement}
+use Rattle.commandreads.proofs.command_of.Tie as tie
 
 allows : (c : tie.After-enum-told) → let a = c .before .before .before .before .args in verdictOf (a .code) (a .content .now) ≡ Allowed
 allows c = sym (c .before .before .verdict-on .ensures) ∙ c .enum-told .given .1

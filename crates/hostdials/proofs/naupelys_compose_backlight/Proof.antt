@@ -1,6 +1,6 @@
 use borrow.Author.Needs.{needs}
-use Rattle.hostscreen.proofs.naupelys_compose_backlight.Statement.{statement}
-use Rattle.hostscreen.proofs.naupelys_compose_backlight.Tie as tie
+use Rattle.hostdials.proofs.naupelys_compose_backlight.Statement.{statement}
+use Rattle.hostdials.proofs.naupelys_compose_backlight.Tie as tie
 
 pub naupelys-compose-backlight-spec : {M : Type 1} → statement M
 naupelys-compose-backlight-spec =

@@ -1,6 +1,6 @@
 use borrow.Author.Needs.{needs}
-use Rattle.hostscreen.proofs.naupelys_compose_contrast.Statement.{statement}
-use Rattle.hostscreen.proofs.naupelys_compose_contrast.Tie as tie
+use Rattle.hostdials.proofs.naupelys_compose_contrast.Statement.{statement}
+use Rattle.hostdials.proofs.naupelys_compose_contrast.Tie as tie
 
 pub naupelys-compose-contrast-spec : {M : Type 1} → statement M
 naupelys-compose-contrast-spec =

@@ -1,6 +1,6 @@
 use borrow.Author.Needs.{needs}
-use Rattle.hostscreen.proofs.naupelys_compose_style.Statement.{statement}
-use Rattle.hostscreen.proofs.naupelys_compose_style.Tie as tie
+use Rattle.hostdials.proofs.naupelys_compose_style.Statement.{statement}
+use Rattle.hostdials.proofs.naupelys_compose_style.Tie as tie
 
 pub naupelys-compose-style-spec : {M : Type 1} → statement M
 naupelys-compose-style-spec =
