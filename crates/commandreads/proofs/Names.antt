@@ -1,6 +1,6 @@
 -- Every packet that the panel allows is a command's: some command is named, and its code and data are those of the packet.
 use Prim.Native.Nat.{ℕ, _≤_}
-use mathlib.Core.Path.{_≡_, refl, sym, _∙_, ap}
+use mathlib.Core.Path.{_≡_, refl, sym, ap}
 use mathlib.Core.Logic.{dite}
 use mathlib.Core.Bool.{Bool, true, false, false≢true, _&&_, and-eq-true-iff}
 use mathlib.Core.List.{List, [], _∷_, _++_}
@@ -18,10 +18,9 @@ use Rattle.verdict.specs.Verdict.{isReboot, wholeVerdict, verdictOf}
 use Rattle.verdict.proofs.Reasons.{Seen, together, see}
 use Rattle.composer.proofs.Verdicts.{allowed-fits}
 use Rattle.commands.specs.declared.Command.{Command}
-use Rattle.commands.specs.declared.Command.the-variants.{Reboot}
 use Rattle.commandreads.specs.declared.Named.{Named}
 use Rattle.commandreads.specs.declared.Named.the-variants.{Is, None}
-use Rattle.commands.specs.Commands.{Form, exactly, followed, formOf, codeOf, dataOf, bytesIn, formCode, formData, formBytes}
+use Rattle.commands.specs.Commands.{formOf, codeOf, dataOf, bytesIn}
 use Rattle.commandreads.specs.Backwards.{hasForm, candidates, firstWith}
 
 -- R, given what P says of each of a list: as many arguments as the list is long

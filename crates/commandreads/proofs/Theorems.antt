@@ -1,19 +1,17 @@
 -- What holds of a command read backwards over and above the function's own promise.
 use Prim.Native.Nat.{ℕ, suc}
-use mathlib.Core.Path.{_≡_, refl, sym, _∙_}
-use mathlib.Core.Bool.{true, false, false≢true}
-use mathlib.Core.List.{List, [], _∷_}
+use mathlib.Core.Path.{_≡_, refl, _∙_}
+use mathlib.Core.Bool.{true, false≢true}
+use mathlib.Core.List.{List}
 use native.Mathlib.Omega.{arith}
-use lib.ListN.{length, drop, getD}
+use lib.ListN.{length, getD}
 use lib.Seq.{drop-at}
 use borrow.Author.Tests.{le-leb}
 use Rattle.lists.specs.Promise.{Determined}
-use Rattle.lists.specs.Tests.{when_then_else_, _=?_}
-use Rattle.lists.proofs.Theorems.{one, and}
-use Rattle.verdict.specs.declared.Verdict.{Verdict}
+use Rattle.lists.specs.Tests.{when_then_else_}
+use Rattle.lists.proofs.Theorems.{one}
 use Rattle.verdict.specs.declared.Verdict.the-variants as verdicts
 use Rattle.verdict.specs.Verdict.{verdictOf}
-use Rattle.composer.specs.declared.Composing.{Composing}
 use Rattle.composer.specs.declared.Composing.the-variants.{Written}
 use Rattle.composer.proofs.Ways.{written-allowed}
 use Rattle.commands.specs.declared.Command.{Command}

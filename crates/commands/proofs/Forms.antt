@@ -2,7 +2,7 @@
 use Prim.Native.Nat.{ℕ, _+_, _-_, _≤_, min}
 use mathlib.Core.Path.{_≡_, refl, sym, _∙_, ap}
 use mathlib.Core.Bool.{true, false, false≢true}
-use mathlib.Core.List.{List, [], _∷_, _++_, append-nil}
+use mathlib.Core.List.{List, [], _++_, append-nil}
 use native.Mathlib.Omega.{arith}
 use lib.ListN.{length, take, drop, replicate, length-append, length-take}
 use lib.Seq.{take-at, take-append-seam, take-append-add}
@@ -10,11 +10,10 @@ use Rattle.lists.specs.Runs.{front, pasted}
 use Rattle.lists.proofs.Laws.{length-pasted, pasted-front, front-run, take-most, all-behind, drop-most}
 use Rattle.composer.specs.declared.Composing.{Composing}
 use Rattle.composer.specs.Compose.{ComposesFor}
-use Rattle.composer.proofs.Ways.{trimmed}
 use Rattle.commands.specs.declared.Command.{Command}
 use Rattle.commands.specs.declared.Command.the-variants.{Ping, Version, WriteFlash, ReadFlash, StoreBoot, Reboot, Clear, SetGlyph, ReadMemory, SetCursor, SetStyle, SetContrast, SetBacklight, SetMasks, Poll, WriteText, SetPin, ConfigurePin, ReadPin}
 use Rattle.commands.specs.declared.Head.{Head}
-use Rattle.commands.specs.Commands.{Form, exactly, followed, formOf, formCode, formData, formBytes, headOf, codeOf, dataOf}
+use Rattle.commands.specs.Commands.{Form, exactly, followed, formOf, formCode, formData, formBytes, headOf}
 
 -- no command has more than three values
 pub few : (c : Command) → headOf (formOf c) .count ≤ 3

@@ -12,8 +12,7 @@ use Rattle.lists.proofs.Laws.{when-false}
 use Rattle.table.specs.declared.Row.{Row}
 use Rattle.table.specs.Table.{TableRow, row, table, lookUp, unknown}
 use Rattle.table.proofs.Rows.{longest-22}
-use Rattle.verdict.specs.declared.Reason.the-variants.{UnknownCommand, LengthNotAllowed}
-use Rattle.verdict.specs.declared.Verdict.{Verdict}
+use Rattle.verdict.specs.declared.Reason.the-variants.{UnknownCommand}
 use Rattle.verdict.specs.declared.Verdict.the-variants.{Allowed, Refused}
 use Rattle.verdict.specs.Verdict.{verdictOf}
 use Rattle.verdict.proofs.Reasons.{Fits, Seen, no-command, long, together, shown, see}

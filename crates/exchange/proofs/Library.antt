@@ -15,7 +15,6 @@ use Rattle.verdict.specs.declared.Verdict.the-variants as verdicts
 use Rattle.verdict.specs.Verdict.{verdictOf}
 use Rattle.panel.specs.declared.Panel.{Panel}
 use Rattle.ranges.specs.Ranges.{inRanges}
-use Rattle.answers.specs.declared.Answer.{Answer}
 use Rattle.answers.specs.declared.Numbers.{Numbers}
 use Rattle.answers.specs.declared.Said.{Said}
 use Rattle.answers.specs.Answer.{numbersOf, noCounts}
@@ -29,8 +28,6 @@ use Rattle.composer.proofs.Verdicts.{allowed-short}
 use Rattle.composer.proofs.Ways.{written-allowed, written-is}
 use Rattle.host.specs.Calls.{composeNumbers, packetLength, ComposeBytes}
 use Rattle.hostreads.specs.Reads.{readNumber, readingBytes, ReadBytes}
-use Rattle.reading.specs.declared.Meaning.{Meaning}
-use Rattle.reading.specs.declared.Meaning.the-variants.{Unreadable}
 use Rattle.reading.specs.declared.Reading.{Reading}
 use Rattle.reading.specs.Reading.{readOf}
 use Rattle.exchange.specs.Writes.{Writes, inReply, inRefusal, inReport}

@@ -1,6 +1,6 @@
 -- A composer's answer and a panel's, by the one verdict on a code and data.
-use Prim.Native.Nat.{ℕ, _+_, _%_, _<_}
-use mathlib.Core.Path.{_≡_, refl, sym, _∙_, ap}
+use Prim.Native.Nat.{ℕ, _%_, _<_}
+use mathlib.Core.Path.{_≡_, _∙_}
 use mathlib.Core.Logic.{_↔_}
 use mathlib.Core.List.{List}
 use native.Mathlib.Omega.{arith}
@@ -15,7 +15,7 @@ use Rattle.answers.specs.declared.Answer.{Answer}
 use Rattle.answers.specs.declared.Answer.the-variants as answers
 use Rattle.listen.specs.Reply.{ruling}
 use Rattle.composer.specs.declared.Composing.{Composing}
-use Rattle.composer.specs.declared.Composing.the-variants.{Refused, Written}
+use Rattle.composer.specs.declared.Composing.the-variants.{Refused}
 use Rattle.composer.specs.Compose.{outcomeBy, composing, ComposesFor}
 
 -- with a buffer of 26 bytes the verdict decides

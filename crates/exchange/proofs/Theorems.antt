@@ -12,7 +12,6 @@ use Rattle.packets.specs.Packet.{packetBytes}
 use Rattle.packets.specs.Hold.{held}
 use Rattle.filing.specs.declared.Record.{Record}
 use Rattle.verdict.specs.declared.Reason.{Reason}
-use Rattle.verdict.specs.declared.Verdict.the-variants as verdicts
 use Rattle.verdict.specs.Verdict.{verdictOf}
 use Rattle.panel.specs.declared.Panel.{Panel}
 use Rattle.ranges.specs.Ranges.{inRanges}

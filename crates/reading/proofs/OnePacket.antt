@@ -7,7 +7,7 @@ use native.Mathlib.Omega.{arith}
 use borrow.Author.Tests.{eqb-true}
 use lib.ListN.{length, take, drop}
 use Rattle.packets.specs.declared.Judgement.{Judgement}
-use Rattle.packets.specs.Judge.{lengthByte, judge}
+use Rattle.packets.specs.Judge.{lengthByte}
 use Rattle.packets.proofs.Judgements.{Seen, short, part, long, wrong, whole, see}
 use Rattle.reading.specs.Reading.{isPacketFound, isOnePacket, dataIn}
 

@@ -2,7 +2,7 @@
 -- its ranges, and what each means: the reader and the panels are both held to it.
 use Prim.Native.Nat.{ℕ, _+_, _-_}
 use mathlib.Core.Path.{_≡_}
-use mathlib.Core.Bool.{Bool, true, false, not, _&&_, _||_}
+use mathlib.Core.Bool.{Bool, true, false, _&&_, _||_}
 use mathlib.Core.List.{List, [], _∷_}
 use lib.ListN.{length, take, drop, getD}
 use Rattle.lists.specs.Tests.{when_then_else_, _<?_, _≤?_, _=?_, allAtMost}

@@ -1,11 +1,9 @@
 use Prim.Native.Nat.{ℕ, _+_}
 use mathlib.Core.Path.{_≡_, refl}
-use mathlib.Core.List.{List, _++_}
+use mathlib.Core.List.{_++_}
 use native.Mathlib.Omega.{arith}
 use lib.ListN.{length, length-take, take, replicate}
 use borrow.Author.Needs.{needs, length-unmapped}
-use Rattle.composer.specs.declared.Composing.{Composing}
-use Rattle.composer.specs.Compose.{ComposesFor}
 use Rattle.composer.proofs.Ways.{trimmed}
 use Rattle.commands.proofs.Forms.{laid-room, laid-taken}
 use Rattle.commands.proofs.with_bytes.Statement.{statement}

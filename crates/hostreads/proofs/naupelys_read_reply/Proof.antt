@@ -1,4 +1,3 @@
-use mathlib.Core.Path.{refl}
 use borrow.Author.Needs.{needs}
 use Rattle.reading.proofs.Theorems.{values-at-most-22}
 use Rattle.hostreads.proofs.naupelys_read_reply.Statement.{statement}
