@@ -30,13 +30,17 @@ screen codes glyphs = record { codes = codes; glyphs = glyphs }
 abbrev pub screenOf : Shown → Screen
 screenOf s = screen (s .text) (nestedOf (s .glyphs))
 
--- which source a code draws from: "Code 0 to 7 draws that glyph; any other code c draws font bytes 8c to 8c + 7"
+-- which source a code draws from: "code c from 0 to 15 draws glyph c mod 8" (document 02, order 2), and "any other code c draws font
+-- bytes 8c to 8c + 7"
 pub data Source : Type 0 where
   special : ℕ → Source
   font : ℕ → Source
 
+abbrev pub isSpecial : ℕ → Bool
+isSpecial code = code <? 16
+
 unfoldable pub sourceOf : ℕ → Source
-sourceOf code = when code <? 8 then special code else font code
+sourceOf code = when isSpecial code then special (code % 8) else font code
 
 -- "low six bits"
 abbrev pub lowSix : List ℕ → List ℕ

@@ -2,7 +2,18 @@
 ghost use mathlib.Core.Path.{_≡_};
 ghost use Prim.Native.Nat.{_<_};
 ghost use lib.ListN.{length};
-ghost use Rattle.picture.specs.Draw.{lowSix, codeDrawn, put};
+ghost use Rattle.picture.specs.Draw.{isSpecial, lowSix, codeDrawn, put};
+use glyphs::GLYPHS;
+
+// How many codes draw a special glyph, two each: a host whose strings end at 0 writes 8 for glyph 0 (document 02, order 2).
+const SPECIAL_CODES: u8 = 16;
+
+// Whether a code draws a special glyph; the others draw from the font.
+pub fn is_special(code: u8) -> bool
+    ensures { λ r. ⌜ r ≡ isSpecial code ⌝ }
+{
+    code < SPECIAL_CODES
+}
 
 fn low_six(rows: [u8; 8]) -> [u8; 8]
     ensures { λ r. ⌜ r ≡ lowSix rows ⌝ }
@@ -20,8 +31,8 @@ fn low_six(rows: [u8; 8]) -> [u8; 8]
 pub fn draw(glyphs: [[u8; 8]; 8], font: &[u8], code: u8) -> [u8; 8]
     ensures { λ r. ⌜ r ≡ codeDrawn glyphs (now (font .entry)) code ⌝ }
 {
-    if code < 8 {
-        let i = code as usize;
+    if is_special(code) {
+        let i = code as usize % GLYPHS;
         return glyphs[i];
     }
     low_six(glyphs::eight(font, 8 * (code as u16)))

@@ -1,12 +1,13 @@
 // The repaint, from the codes and glyphs before and after, and the picture drawn afresh.
 ghost use mathlib.Core.Path.{_≡_};
-ghost use mathlib.Core.Bool.{true, _&&_, _||_};
+ghost use mathlib.Core.Bool.{true, not, _&&_, _||_};
 ghost use Prim.Native.Nat.{_<_, _≤_};
 ghost use lib.ListN.{length};
-ghost use Rattle.lists.specs.Tests.{_=?_, _≤?_};
-ghost use Rattle.picture.specs.Draw.{cellDrawn, drawn, screen, screenOf};
+ghost use Rattle.lists.specs.Tests.{_=?_};
+ghost use Rattle.picture.specs.Draw.{isSpecial, cellDrawn, drawn, screen, screenOf};
 ghost use Rattle.picture.specs.Repaint.{alike, RepaintsCell, RepaintsSized, DrawsAll};
 use crate::draw::draw;
+use crate::draw::is_special;
 use crate::draw::put_cell;
 use panel::Shown;
 
@@ -35,9 +36,9 @@ fn alike_first(a: &[u8], b: &[u8], n: usize) -> bool
 
 // A code that stays draws as it did where the glyphs are the same, or where it is not special.
 fn stays(a: u8, b: u8, same: bool) -> bool
-    ensures { λ r. ⌜ r ≡ (a =? b) && (same || (8 ≤? b)) ⌝ }
+    ensures { λ r. ⌜ r ≡ (a =? b) && (same || not (isSpecial b)) ⌝ }
 {
-    (a == b) & (same | (8 <= b))
+    (a == b) & (same | !is_special(b))
 }
 
 // A cell that draws otherwise is written; says whether it draws as it did. `same` is true only where the glyphs are.
