@@ -1,5 +1,5 @@
 /* Naupelys: the module software of a front panel with four rows of twenty characters, six keys and status lights, behind the
- * CFA635 packet protocol, as document 01 narrows it.
+ * CFA635 packet protocol, as document 01 and order 2 of document 02 narrow it.
  *
  * Four calls over buffers that the caller lends. Nothing is allocated and nothing is kept between calls: all that the panel
  * knows stands in the state. Every call returns, whatever the bytes, numbers and sizes, and no caller has to check first: a bad
@@ -59,6 +59,10 @@
  *    149, 150   masks of key presses and releases that are reported
  *    151-163    levels of pins 0 to 12
  *    164-168    configs of pins 0 to 4
+ *
+ * The picture, 640 bytes: cell 20 x row + column has bytes 8 x cell to 8 x cell + 7, top line first, bit 5 left. Code c from 0 to
+ * 15 draws special glyph c mod 8, so that a host whose strings end at 0 writes 8 for glyph 0; the state keeps the code that was
+ * written. Any other code c draws font bytes 8c to 8c + 7, their low six bits: the font's first 128 bytes are never drawn.
  *
  * The register of faults, 64 records of 7 bytes, zeros when empty:
  *

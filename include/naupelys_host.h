@@ -113,7 +113,7 @@ uint8_t naupelys_compose_flash(const uint8_t *flash, size_t flash_size,
 /* 5: a reboot, with the three bytes that it asks for. */
 uint8_t naupelys_compose_reboot(uint8_t *packet, size_t packet_size, uint8_t *said);
 
-/* 9: the eight rows, 0 to 63 each, of special glyph 0 to 7. */
+/* 9: the eight rows, 0 to 63 each, of special glyph 0 to 7, which codes index and index + 8 show. */
 uint8_t naupelys_compose_glyph(uint8_t index, const uint8_t *rows, size_t rows_size,
                                uint8_t *packet, size_t packet_size, uint8_t *said);
 
@@ -141,7 +141,8 @@ uint8_t naupelys_compose_backlight(uint8_t backlight,
 uint8_t naupelys_compose_masks(uint8_t press, uint8_t release,
                                uint8_t *packet, size_t packet_size, uint8_t *said);
 
-/* 31: text of 1 to 20 characters from column 0 to 19 of row 0 to 3 on, not past column 19. */
+/* 31: text of 1 to 20 characters from column 0 to 19 of row 0 to 3 on, not past column 19. Character 8 to 15 shows special glyph
+ * 0 to 7, as 0 to 7 does; a string that ends at 0 holds those. */
 uint8_t naupelys_compose_text(uint8_t column, uint8_t row, const uint8_t *text, size_t text_size,
                               uint8_t *packet, size_t packet_size, uint8_t *said);
 

@@ -238,7 +238,7 @@ struct Seen {
 }
 
 /// Further things that have to be seen.
-const OTHER: [&str; 23] = [
+const OTHER: [&str; 26] = [
     "count raised",
     "free record taken",
     "unfiled, no room",
@@ -251,6 +251,9 @@ const OTHER: [&str; 23] = [
     "glyph changed, cells listed",
     "reboot lists cells",
     "glyphs and codes changed, none listed",
+    "a code over the one eight apart, none listed",
+    "glyph changed, a cell of code 8 to 15 listed",
+    "glyph changed, a cell of code 16 to 23 not listed",
     "packet from an empty piece",
     "above 65,535 checked",
     "above 4,000 dropped",
@@ -336,6 +339,19 @@ impl Seen {
         other("glyph changed, cells listed", said.cells > 0 && command == glyph);
         other("reboot lists cells", said.cells > 0 && command == 5);
         other("glyphs and codes changed, none listed", said.cells == 0 && codes_differ && glyphs_differ);
+        let eight_apart = |(a, b): (&u8, &u8)| a == b || *a.max(b) < 16 && a.abs_diff(*b) == 8;
+        let all_eight_apart = text(old).iter().zip(&text(new)).all(eight_apart);
+        other("a code over the one eight apart, none listed", said.cells == 0 && codes_differ && all_eight_apart);
+        if command == glyph && glyphs_differ {
+            let row = glyphs(old).iter().zip(&glyphs(new)).position(|(a, b)| a != b).expect("some row differs");
+            let listed = &after.list.bytes()[..said.cells];
+            // Whether some cell of the code is listed, or some is not.
+            let some = |code: usize, is: bool| {
+                (0..).zip(text(new)).any(|(cell, shown)| usize::from(shown) == code && listed.contains(&cell) == is)
+            };
+            other("glyph changed, a cell of code 8 to 15 listed", some(row / 8 + 8, true));
+            other("glyph changed, a cell of code 16 to 23 not listed", some(row / 8 + 16, false));
+        }
         other("packet from an empty piece", said.number > reading::WAITING && said.taken == 0);
         other("above 65,535 checked", said.checked > 65_535);
         other("above 4,000 dropped", said.dropped > 4_000);
@@ -729,6 +745,31 @@ fn worked_cases(test: &mut Test) -> u64 {
         expect("P10", (step, desk.list.clone()), (step, list));
         cases += 1;
     }
+
+    // Order 2: step, command and data; the cells listed, and the data of the reply.
+    let mut desk = at_power_on(test);
+    let rows: [(&str, u8, &[u8], &[u8], &[u8]); 12] = [
+        ("0 written", 31, &[3, 1, 0], &[23], &[]),
+        ("8 over 0", 31, &[3, 1, 8], &[], &[]),
+        ("8 read as 8", 10, &[163], &[], &[163, 8, 32, 32, 32, 32, 32, 32, 32]),
+        ("1, 9, 17 and 15 written", 31, &[0, 0, 1, 9, 17, 15], &[0, 1, 2, 3], &[]),
+        ("9 written at the end", 31, &[19, 3, 9], &[79], &[]),
+        ("glyph 1", 9, &[1, 63, 0, 0, 0, 0, 0, 0, 1], &[0, 1, 79], &[]),
+        ("glyph 1 again", 9, &[1, 63, 0, 0, 0, 0, 0, 0, 1], &[], &[]),
+        ("glyph 7", 9, &[7, 1, 2, 3, 4, 5, 6, 7, 8], &[3], &[]),
+        ("stored", 4, &[], &[], &[]),
+        ("9, 1, 16 and 7 over 1, 9, 17 and 15", 31, &[0, 0, 9, 1, 16, 7], &[2], &[]),
+        ("reboot", 5, &[8, 18, 99], &[2], &[]),
+        ("the codes that were stored", 10, &[128], &[], &[128, 1, 9, 17, 15, 32, 32, 32, 32]),
+    ];
+    for (step, command, data, list, reply) in rows {
+        expect("order 2", (step, desk.call(test, Call::Line, &packet(command, data)).number), (step, 3));
+        expect("order 2", (step, desk.list.clone()), (step, list.to_vec()));
+        expect("order 2", (step, desk.reply.clone()), (step, packet(64 + command, reply)));
+        cases += 1;
+    }
+    expect("code 15 draws glyph 7", &desk.picture[24..32], &[1, 2, 3, 4, 5, 6, 7, 8]);
+    expect("code 17 draws the font", &desk.picture[16..24], &[17; 8]);
 
     // The line program's sample: offset, number, command, reason and place of each event.
     let bytes = [0xFF, 0x00, 0x00, 0x47, 0x0F, 0x06, 0x01, 0x00, 0xCD, 0x09];

@@ -1,5 +1,5 @@
 //! A second reading of the host's side, order 1 of document 02, in plain Rust, written from the papers and from
-//! `naupelys_host.h` alone. What a panel refuses, and the checksum, are those of the reading of document 01.
+//! `naupelys_host.h` alone. What a panel refuses, and the checksum, are those of the panel's reading.
 
 use crate::reading::{checksum, refusal, DONE, REFUSED, SAID};
 

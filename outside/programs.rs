@@ -167,9 +167,9 @@ fn line_program(input: &[u8], font: [u8; FONT]) -> Lines {
     lines
 }
 
-/// Text over all four rows, so that all 80 cells draw otherwise.
-fn all_rows(code: u8) -> Vec<u8> {
-    (0..4).flat_map(|row| packet(31, &[&[0, row][..], &[code; 20][..]].concat())).collect()
+/// Text over all four rows, one code in each.
+fn rows_of(codes: [u8; 4]) -> Vec<u8> {
+    (0..).zip(codes).flat_map(|(row, code)| packet(31, &[&[0, row][..], &[code; 20][..]].concat())).collect()
 }
 
 /// Packets of all kinds, strays, damage and noise, from a fixed seed; at the end the front of a packet that does not come.
@@ -178,11 +178,11 @@ fn long_input() -> Vec<u8> {
     let mut input = Vec::new();
     while input.len() < 9 * READ {
         input.extend(traffic::traffic(&mut rng, 300));
-        // Every cell is drawn by glyph 1, and the glyph is changed.
-        input.extend(all_rows(1));
+        // Every cell is drawn by glyph 1, by either of its codes, and the glyph is changed.
+        input.extend(rows_of([1, 9, 1, 9]));
         input.extend(packet(9, &[&[1][..], &[1 + rng.up_to(31); 8][..]].concat()));
-        // The same code again, and codes of which the font's rows are 32 and 64 apart.
-        for code in [65, 65, 97, 33, 161] {
+        // The same code again, codes of which the font's rows are 32 and 64 apart, and both codes of a glyph.
+        for code in [65, 65, 97, 33, 161, 15, 7, 16, 8] {
             input.extend(packet(31, &[&[0, rng.up_to(3)][..], &[code; 20][..]].concat()));
         }
         // Cut off before each read's end, with a packet on both of its sides.
@@ -254,14 +254,18 @@ fn host() -> Vec<u8> {
         packet(10, &[64 + 12]),
         text(0, 1, b"FJL"),
         text(7, 1, &[214, b' ', 214, 7, 0]),
+        text(13, 1, &[8, 9, 15, 16, b'F']),
         // Nothing changes, a packet is refused, and a reply is none of the panel's business.
         glyph(0, flag),
         packet(13, &[255]),
         packet(64, &[]),
         text(0, 2, &[1; 20]),
+        text(6, 2, &[9; 3]),
         glyph(1, flag),
         glyph(1, stairs),
         text(0, 3, &[0]),
+        text(0, 3, &[8]),
+        glyph(7, flag),
         text(19, 3, &[b'J']),
         text(4, 2, b"        "),
     ]

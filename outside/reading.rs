@@ -1,5 +1,5 @@
-//! A second reading of document 01, in plain Rust, written from the paper and from `naupelys.h` alone. It shares nothing with
-//! the library, so that the two can be compared. The headings are the paper's.
+//! A second reading of document 01 and of document 02's order 2, in plain Rust, written from the papers and from `naupelys.h`
+//! alone. It shares nothing with the library, so that the two can be compared. The headings are document 01's.
 
 pub const STATE: usize = 390;
 pub const PIECE_MOST: usize = 4096;
@@ -607,19 +607,24 @@ impl Panel {
 
 pub const CELLS: usize = 80;
 
-/// "Code 0 to 7 draws that glyph; any other code c draws font bytes 8c to 8c + 7, low six bits."
+/// Document 02, order 2: "code c from 0 to 15 draws glyph c mod 8."
+fn glyph_of(code: u8) -> Option<usize> {
+    (code <= 15).then_some(usize::from(code % 8))
+}
+
+/// A code's glyph, or else: "any other code c draws font bytes 8c to 8c + 7, low six bits."
 pub fn draw(settings: &Settings, cell: usize, font: &[u8]) -> [u8; 8] {
-    let code = usize::from(settings.text[cell]);
-    match settings.glyphs.get(code) {
-        Some(glyph) => *glyph,
-        None => std::array::from_fn(|line| font[8 * code + line] & 63),
+    let code = settings.text[cell];
+    match glyph_of(code) {
+        Some(glyph) => settings.glyphs[glyph],
+        None => std::array::from_fn(|line| font[8 * usize::from(code) + line] & 63),
     }
 }
 
-/// Whether a cell's drawing may differ: another code, or the same special glyph with other rows.
+/// Whether a cell's drawing may differ: another code, or the same one of a glyph with other rows.
 fn may_differ(before: &Settings, after: &Settings, cell: usize) -> bool {
-    let code = usize::from(before.text[cell]);
-    before.text[cell] != after.text[cell] || code < 8 && before.glyphs[code] != after.glyphs[code]
+    let code = before.text[cell];
+    code != after.text[cell] || glyph_of(code).is_some_and(|glyph| before.glyphs[glyph] != after.glyphs[glyph])
 }
 
 /// Lists the cells whose drawings before and after differ, rising, and writes all eight bytes of each. The lent picture is

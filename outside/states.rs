@@ -108,7 +108,7 @@ pub fn random_state(rng: &mut Rng) -> Vec<u8> {
             // A boot state that draws the same by other codes: glyph g stands at g + 1.
             state.copy_within(LIVE..BOOT, BOOT);
             state[BOOT + GLYPHS..BOOT + GLYPHS_END].rotate_right(8);
-            state[BOOT..BOOT + GLYPHS].iter_mut().filter(|code| **code < 8).for_each(|code| *code = (*code + 1) % 8);
+            state[BOOT..BOOT + GLYPHS].iter_mut().filter(|code| **code < 16).for_each(|code| *code = (*code + 1) % 16);
         }
         _ => {}
     }

@@ -124,12 +124,12 @@ pub fn packet(kind: u8, data: &[u8]) -> Vec<u8> {
     bytes
 }
 
-/// A code to write: special glyphs often, and 32 and 96, which draw alike in the program's font.
+/// A code to write: special glyphs often, by both of their codes, and 32 and 96, which draw alike in the program's font.
 pub fn code(rng: &mut Rng) -> u8 {
     match rng.below(10) {
-        0..=3 => rng.below(8) as u8,
+        0..=3 => rng.below(16) as u8,
         4 | 5 => rng.pick(&[32, 96, 160, 224]),
-        6 => rng.pick(&[7, 8, 9, 255, 63, 64, 72]),
+        6 => rng.pick(&[7, 8, 15, 16, 17, 255, 63, 64, 72]),
         _ => rng.byte(),
     }
 }
