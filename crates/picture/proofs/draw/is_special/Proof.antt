@@ -1,0 +1,9 @@
+use mathlib.Core.Path.{refl}
+use Rattle.picture.proofs.draw.is_special.Statement.{statement}
+use Rattle.picture.proofs.draw.is_special.Tie as tie
+
+returns : tie.Need-returns
+returns c = refl
+
+pub is-special-spec : {M : Type 1} → statement M
+is-special-spec = tie.close (tie.spec returns)
