@@ -141,8 +141,8 @@ uint8_t naupelys_compose_backlight(uint8_t backlight,
 uint8_t naupelys_compose_masks(uint8_t press, uint8_t release,
                                uint8_t *packet, size_t packet_size, uint8_t *said);
 
-/* 31: text of 1 to 20 characters from column 0 to 19 of row 0 to 3 on, not past column 19. Character 8 to 15 shows special glyph
- * 0 to 7, as 0 to 7 does; a string that ends at 0 holds those. */
+/* 31: text of 1 to 20 characters from column 0 to 19 of row 0 to 3 on, not past column 19. Characters 0 to 7 show the special
+ * glyphs, and so do 8 to 15, for hosts whose strings end at 0. */
 uint8_t naupelys_compose_text(uint8_t column, uint8_t row, const uint8_t *text, size_t text_size,
                               uint8_t *packet, size_t packet_size, uint8_t *said);
 

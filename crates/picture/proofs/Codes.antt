@@ -1,10 +1,10 @@
 -- What a code draws, source by source, and when two drawings are alike.
 use Prim.Native.Nat.{ℕ, zero, suc, _+_, _*_, _%_}
 use mathlib.Core.Path.{_≡_, refl}
-use mathlib.Core.Bool.{Bool, true, false, not, _&&_, _||_, false≢true}
+use mathlib.Core.Bool.{Bool, true, false, not, _&&_, _||_}
 use mathlib.Core.List.{List, []}
 use native.Mathlib.Numerals.{add-one}
-use borrow.Author.Tests.{eqb-true}
+use borrow.Author.Tests.{eqb-true, not-true}
 use lib.ListN.{getD, set, replicate}
 use Rattle.lists.specs.Tests.{_=?_}
 use Rattle.lists.proofs.Laws.{when-true, when-false}
@@ -22,10 +22,6 @@ module _ (glyphs : List (List ℕ)) (bytes : List ℕ) (code : ℕ) where
   unfolding codeDrawn sourceOf drawnFrom
   drawn-font h = rw (when-false _ _ _ h)
 
-off : (a : Bool) → not a ≡ true → a ≡ false
-off true h = absurd (false≢true h)
-off false h = refl
-
 -- a code that stays and draws from the font, or from the same glyphs, draws as it did
 pub stays-alike : (before after : List (List ℕ)) (bytes : List ℕ) (a b : ℕ) (same : Bool) → (same ≡ true → before ≡ after) → (a =? b) && (same || not (isSpecial b)) ≡ true
     → alike 8 (codeDrawn before bytes a) (codeDrawn after bytes b) ≡ true
@@ -34,7 +30,7 @@ stays-alike before after bytes a b true k h =
     rw (eqb-true a b (t .0), k refl) (alike-self 8 (codeDrawn after bytes b))
 stays-alike before after bytes a b false k h =
     let t = both (a =? b) (not (isSpecial b)) h in
-    let g = off (isSpecial b) (t .1) in
+    let g = not-true (isSpecial b) (t .1) in
     rw (eqb-true a b (t .0), drawn-font before bytes b g, drawn-font after bytes b g) (alike-self 8 (lowSix (eightFrom bytes (8 * b))))
 
 -- the low six bits of the first n of eight rows, zeros behind

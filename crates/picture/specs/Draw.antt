@@ -30,15 +30,16 @@ screen codes glyphs = record { codes = codes; glyphs = glyphs }
 abbrev pub screenOf : Shown → Screen
 screenOf s = screen (s .text) (nestedOf (s .glyphs))
 
--- which source a code draws from: "code c from 0 to 15 draws glyph c mod 8" (document 02, order 2), and "any other code c draws font
--- bytes 8c to 8c + 7"
+-- what a code draws from: the special glyph of a number, or the font at a code
 pub data Source : Type 0 where
   special : ℕ → Source
   font : ℕ → Source
 
+-- "code c from 0 to 15"
 abbrev pub isSpecial : ℕ → Bool
 isSpecial code = code <? 16
 
+-- "code c from 0 to 15 draws glyph c mod 8" (document 02, order 2); "any other code c draws font bytes 8c to 8c + 7"
 unfoldable pub sourceOf : ℕ → Source
 sourceOf code = when isSpecial code then special (code % 8) else font code
 
