@@ -1,0 +1,10 @@
+pub mod Asked
+pub mod Cuts
+pub mod Entries
+pub mod Faults
+pub mod Firsts
+pub mod Handing
+pub mod Lines
+pub mod Looks
+pub mod Parts
+pub mod Theorems

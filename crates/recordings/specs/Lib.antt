@@ -1,0 +1,5 @@
+pub mod Recording
+pub mod Written
+pub mod Next
+pub mod Handed
+pub mod Asking
