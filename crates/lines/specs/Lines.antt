@@ -3,19 +3,9 @@ use Prim.Native.Nat.{ℕ}
 use mathlib.Core.Path.{_≡_}
 use mathlib.Core.List.{List, [], _∷_, _++_}
 use Rattle.lists.specs.Tests.{when_then_else_, _=?_}
-use Rattle.wording.specs.Text.{FillsForm}
+use Rattle.wording.specs.Text.{mark, spaceMark, newline, FillsForm}
 use Rattle.tally.specs.declared.CallTold.{CallTold}
 use Rattle.tally.specs.declared.Sums.{Sums}
-
--- "%", " %" and the end of a line
-abbrev pub mark : List ℕ
-mark = 37 ∷ []
-
-abbrev pub spaceMark : List ℕ
-spaceMark = 32 ∷ 37 ∷ []
-
-abbrev pub newline : List ℕ
-newline = 10 ∷ []
 
 -- " stray", " done", " refused"
 abbrev pub strayWord : List ℕ

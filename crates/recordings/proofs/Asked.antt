@@ -132,6 +132,14 @@ says r place at =
     rw (one-in r place at b d) (holding refl (packets-step r place at d b) (n .1) (n .0)))
     (λ b. rw (none-in r place at (omega arith) (omega arith)) (empty refl (host r place at (omega arith) ∙ none-left (restOf r place at) (omega arith)))))
 
+-- an answer's next place is further on in the entry
+pub moves-on : (r : List ℕ) (place at : ℕ) → inEntry r place at .number ≡ 3 → (place < inEntry r place at .next) × (inEntry r place at .next ≤ entryEnd r at)
+moves-on r place at n = go (says r place at)
+  where
+    go : Says r place at (inEntry r place at) → (place < inEntry r place at .next) × (inEntry r place at .next ≤ entryEnd r at)
+    go (holding k p a b) = (a, b)
+    go (empty k p) = absurd (omega arith)
+
 module _ (r : List ℕ) (at : ℕ) where
   entry-at : (n place : ℕ) → ((next : ℕ) → place < next → next ≤ entryEnd r at → AskedEntry r at next (entryPackets r next at)) → Says r place at (inEntry r place at) → AskedEntry r at place (entryPackets r place at)
   entry-at n place ih (holding k p a b) = rw p (one k (ih (inEntry r place at .next) a b))

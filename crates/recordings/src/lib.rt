@@ -16,6 +16,11 @@ pub const ENTRIES: usize = 5;
 
 pub const HEADER: usize = 3;
 
+// A packet's type and length stand before its data bytes, and its checksum behind them.
+pub const AHEAD: usize = 2;
+
+const CHECKSUM: usize = 2;
+
 // Where the version stands, behind the mark.
 const VERSION: usize = 3;
 
@@ -204,9 +209,9 @@ fn packet_from(recording: &[u8], at: usize) -> Found
     Found {
         number: PACKET,
         kind: recording[at],
-        start: at + 2,
+        start: at + AHEAD,
         length: n,
-        next: at + 2 + n + 2,
+        next: at + AHEAD + n + CHECKSUM,
     }
 }
 

@@ -35,6 +35,16 @@ formBehind t (c ∷ form) numbers =
     when c =? 37 then formBehind (t then decimal (getD numbers 0 0)) form (drop 1 numbers)
     else formBehind (t then (c ∷ [])) form numbers
 
+-- "%", " %" and the end of a line, of which forms are made
+abbrev pub mark : List ℕ
+mark = 37 ∷ []
+
+abbrev pub spaceMark : List ℕ
+spaceMark = 32 ∷ 37 ∷ []
+
+abbrev pub newline : List ℕ
+newline = 10 ∷ []
+
 -- what `filled` promises of the buffer and the length
 abbrev pub FillsForm : List ℕ → List ℕ → List ℕ → ℕ → List ℕ → Type 0
 FillsForm out form numbers r out′ = text out′ r ≡ formBehind (text out 0) form numbers
