@@ -5,6 +5,7 @@ use libc::STDIN_FILENO;
 use libc::STDOUT_FILENO;
 use recordings::AHEAD;
 use recordings::ENTRIES;
+use recordings::Fault;
 use recordings::Found;
 use recordings::PACKET;
 use wording::filled;
@@ -79,7 +80,7 @@ fn offset(start: usize) -> u64 {
 // The line of a packet that was found.
 fn told(recording: &[u8], f: Found, s: Listed) -> Listed {
     let packets = one_more(s.packets);
-    let content = recordings::part(recording, f.start, f.length);
+    let content = readers::part(recording, f.start, f.length);
     let mut out = [0u8; LINE];
     let n = listing::packet(
         &mut out,
@@ -163,22 +164,21 @@ fn words(out: &mut [u8], number: u8, place: u64) -> usize {
 }
 
 // A recording that is refused has one line, and its words on standard error.
-fn refuse(recording: &[u8], number: u8) {
+fn refuse(fault: Fault) {
     let mut out = [0u8; LINE];
-    let n = listing::refusal(&mut out, number);
+    let n = listing::refusal(&mut out, fault.number);
     line(&out, n);
-    let place = recordings::faulty(recording) as u64;
-    let k = words(&mut out, number, place);
+    let k = words(&mut out, fault.number, fault.place as u64);
     put(STDERR_FILENO, &out, k);
 }
 
 // The lines of a recording, or of its refusal.
 fn tell(recording: &[u8]) {
-    let number = recordings::check(recording);
-    if number == 0 {
+    let fault = recordings::check(recording);
+    if fault.number == 0 {
         list(recording);
     } else {
-        refuse(recording, number);
+        refuse(fault);
     }
 }
 

@@ -10,36 +10,42 @@ use borrow.Author.Tests.{lt-ltb, le-ltb}
 use lib.ListN.{length}
 use Rattle.lists.specs.Tests.{when_then_else_, _<?_, _=?_}
 use Rattle.lists.proofs.Laws.{when-true, when-false, when-either}
-use Rattle.recordings.specs.Recording.{marked, versioned, direction, entryEnd, entriesOf, entryFault, firstFault, firstFaulty, recordingFault}
+use Rattle.recordings.specs.declared.Fault.{Fault}
+use Rattle.recordings.specs.Recording.{marked, versioned, direction, entryEnd, entriesOf, entryFault, firstFault, firstFaulty, recordingFault, faultyPlace, faultOf, ChecksRecording}
 use Rattle.recordings.proofs.Entries.{bad-direction, cut-short, no-fault, fault-here, fault-behind, fault-none, faulty-here, faulty-behind, end-behind}
 
 module _ (r : List ℕ) where
-  pub too-long : 65535 < length r → recordingFault r ≡ 22
-  unfolding recordingFault
-  too-long h = when-true _ _ _ (lt-ltb 65535 (length r) h)
+  pub too-long : 65535 < length r → (recordingFault r ≡ 22) × (faultyPlace r ≡ 65535)
+  unfolding recordingFault faultyPlace
+  too-long h = let l = lt-ltb 65535 (length r) h in (when-true _ _ _ l, when-true _ _ _ l)
 
-  pub unmarked : length r ≤ 65535 → not (marked r) ≡ true → recordingFault r ≡ 23
-  unfolding recordingFault
-  unmarked h e = when-false _ _ _ (le-ltb 65535 (length r) h) ∙ when-true _ _ _ e
+  module _ (h : length r ≤ 65535) where
+    short : (65535 <? length r) ≡ false
+    short = le-ltb 65535 (length r) h
 
-  pub unversioned : length r ≤ 65535 → not (marked r) ≡ false → not (versioned r) ≡ true → recordingFault r ≡ 24
-  unfolding recordingFault
-  unversioned h e f = when-false _ _ _ (le-ltb 65535 (length r) h) ∙ when-false _ _ _ e ∙ when-true _ _ _ f
+    pub unmarked : not (marked r) ≡ true → (recordingFault r ≡ 23) × (faultyPlace r ≡ 0)
+    unfolding recordingFault faultyPlace
+    unmarked m = (when-false _ _ _ short ∙ when-true _ _ _ m, when-false _ _ _ short ∙ when-true _ _ _ m)
 
-  pub by-entries : length r ≤ 65535 → not (marked r) ≡ false → not (versioned r) ≡ false → recordingFault r ≡ firstFault r (entriesOf r 5)
-  unfolding recordingFault
-  by-entries h e f = when-false _ _ _ (le-ltb 65535 (length r) h) ∙ when-false _ _ _ e ∙ when-false _ _ _ f
+    module _ (m : not (marked r) ≡ false) where
+      pub unversioned : not (versioned r) ≡ true → (recordingFault r ≡ 24) × (faultyPlace r ≡ 3)
+      unfolding recordingFault faultyPlace
+      unversioned v = (when-false _ _ _ short ∙ when-false _ _ _ m ∙ when-true _ _ _ v, when-false _ _ _ short ∙ when-false _ _ _ m ∙ when-true _ _ _ v)
+
+      pub by-entries : not (versioned r) ≡ false → (recordingFault r ≡ firstFault r (entriesOf r 5)) × (faultyPlace r ≡ firstFaulty r (entriesOf r 5))
+      unfolding recordingFault faultyPlace
+      by-entries v = (when-false _ _ _ short ∙ when-false _ _ _ m ∙ when-false _ _ _ v, when-false _ _ _ short ∙ when-false _ _ _ m ∙ when-false _ _ _ v)
 
   -- a recording that is fine is short enough, and so are its entries
   pub fine : recordingFault r ≡ 0 → (length r ≤ 65535) × (firstFault r (entriesOf r 5) ≡ 0)
   fine z =
-      dite (decLt 65535 (length r)) (λ p. absurd (omega (arith, too-long p)))
+      dite (decLt 65535 (length r)) (λ p. absurd (omega (arith, too-long p .0)))
       (λ p. go (not (marked r)) refl (not (versioned r)) refl (omega arith))
     where
       go : (m : Bool) → not (marked r) ≡ m → (v : Bool) → not (versioned r) ≡ v → length r ≤ 65535 → (length r ≤ 65535) × (firstFault r (entriesOf r 5) ≡ 0)
-      go true e v f h = absurd (omega (arith, unmarked h e))
-      go false e true f h = absurd (omega (arith, unversioned h e f))
-      go false e false f h = (h, sym (by-entries h e f) ∙ z)
+      go true e v f h = absurd (omega (arith, unmarked h e .0))
+      go false e true f h = absurd (omega (arith, unversioned h e f .0))
+      go false e false f h = (h, sym (by-entries h e f .0) ∙ z)
 
 -- where no fault is found from an entry on, it ends inside the recording, and none is found behind it
 pub fine-entry : (r : List ℕ) (at : ℕ) → at < length r → firstFault r (entriesOf r at) ≡ 0 → (entryEnd r at ≤ length r) × (firstFault r (entriesOf r (entryEnd r at)) ≡ 0)
@@ -87,3 +93,7 @@ fault-number r =
     when-either Apart (65535 <? length r) 22 _ (λ _. inr (omega arith))
     (λ _. when-either Apart (not (marked r)) 23 _ (λ _. inr (omega arith))
     (λ _. when-either Apart (not (versioned r)) 24 _ (λ _. inr (omega arith)) (λ _. entries-number r (entriesOf r 5))))
+
+-- the two numbers of a check
+pub told : (r : List ℕ) (f : Fault) (n place : ℕ) → f ≡ faultOf n place → (recordingFault r ≡ n) × (faultyPlace r ≡ place) → ChecksRecording r f
+told r f n place e w = e ∙ λ i. faultOf (sym (w .0) i) (sym (w .1) i)

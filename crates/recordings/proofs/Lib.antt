@@ -1,9 +1,8 @@
 pub mod Asked
-pub mod Cuts
+pub mod Begins
 pub mod Entries
 pub mod Faults
 pub mod Firsts
-pub mod Handing
 pub mod Lines
 pub mod Looks
 pub mod Parts

@@ -6,6 +6,7 @@ use mathlib.Core.Bool.{Bool, not, _&&_}
 use mathlib.Core.List.{List, [], _∷_}
 use lib.ListN.{length, getD, drop}
 use Rattle.lists.specs.Tests.{when_then_else_, _<?_, _≤?_, _=?_}
+use Rattle.recordings.specs.declared.Fault.{Fault}
 
 -- "up to 65,535 bytes"
 abbrev pub recordingMost : ℕ
@@ -84,17 +85,17 @@ firstFaulty r (at ∷ more) = when entryFault r at =? 0 then firstFaulty r more 
 -- at which byte it is wrong: the first byte too many, the mark, the version, or the faulty entry; where it is fine, its end
 unfoldable pub faultyPlace : List ℕ → ℕ
 faultyPlace r =
-    when recordingFault r =? 22 then recordingMost
-    else when recordingFault r =? 23 then 0
-    else when recordingFault r =? 24 then versionPlace
+    when recordingMost <? length r then recordingMost
+    else when not (marked r) then 0
+    else when not (versioned r) then versionPlace
     else firstFaulty r (entriesOf r entriesStart)
 
--- what `check` and `faulty` promise
-abbrev pub ChecksRecording : List ℕ → ℕ → Type 0
-ChecksRecording recording r = r ≡ recordingFault recording
+abbrev pub faultOf : ℕ → ℕ → Fault
+faultOf number place = record { number = number; place = place }
 
-abbrev pub PlacesFault : List ℕ → ℕ → Type 0
-PlacesFault recording r = r ≡ faultyPlace recording
+-- what `check` promises
+abbrev pub ChecksRecording : List ℕ → Fault → Type 0
+ChecksRecording recording r = r ≡ faultOf (recordingFault recording) (faultyPlace recording)
 
 -- what `behind` promises: the place behind an entry, but not behind the recording
 abbrev pub Passes : List ℕ → ℕ → ℕ → Type 0

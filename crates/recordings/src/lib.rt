@@ -1,12 +1,10 @@
-// Line recordings: the check of a whole recording, and its host packets from a place on, with their data bytes as a part of the
-// recording itself. Nothing here knows of any command.
+// Line recordings: the check of a whole recording, and its host packets from a place on, as places in it. Nothing here knows of any
+// command.
 ghost use mathlib.Core.Path.{_≡_};
 ghost use Prim.Native.Nat.{_+_, _<_, _≤_, max, min};
 ghost use lib.ListN.{length, getD};
-ghost use Rattle.recordings.specs.Recording.{entriesStart, entrySize, marked, versioned, entriesOf, entryFault, firstFault, firstFaulty, ChecksRecording, PlacesFault, Passes};
-ghost use Rattle.recordings.specs.Written.{StartsRecording, Heads};
+ghost use Rattle.recordings.specs.Recording.{entriesStart, entrySize, marked, versioned, entriesOf, entryFault, firstFaulty, faultOf, ChecksRecording, Passes};
 ghost use Rattle.recordings.specs.Next.{before, fromOf, packetFrom, noPacket, firstPacket, FindsIn, Finds};
-ghost use Rattle.recordings.specs.Handed.{PartOf, HandsBack, ReadsFrom};
 use packets::Judgement;
 
 // The longest recording, where its entries begin, and the size of an entry's header: its direction byte and its length.
@@ -32,6 +30,12 @@ pub const NO_MORE: u8 = 1;
 
 pub const PACKET: u8 = 3;
 
+// What the check of a recording finds: a number, and the byte that it is about.
+pub struct Fault {
+    pub number: u8,
+    pub place: usize,
+}
+
 // What asking comes to, as places: where the data bytes start and how many there are, and the place to ask from for the packet
 // behind. Without a packet these are 0, 0 and the place as it came.
 pub struct Found {
@@ -40,34 +44,6 @@ pub struct Found {
     pub start: usize,
     pub length: usize,
     pub next: usize,
-}
-
-// What asking hands back: the data bytes are a part of the recording, empty without a packet.
-pub struct Handed<'a> {
-    pub number: u8,
-    pub kind: u8,
-    pub content: &'a [u8],
-    pub next: usize,
-}
-
-// A recording and a place in it.
-pub struct Reader<'a> {
-    pub recording: &'a [u8],
-    pub place: usize,
-}
-
-// The mark and the version, with which a recording starts.
-pub fn start() -> [u8; ENTRIES]
-    ensures { λ r. ⌜ StartsRecording r ⌝ }
-{
-    *b"PLR\x01\x00"
-}
-
-// The header of an entry of so many bytes.
-pub fn header(direction: u8, length: u16) -> [u8; HEADER]
-    ensures { λ r. ⌜ Heads direction length r ⌝ }
-{
-    [direction, (length % 256) as u8, (length / 256) as u8]
 }
 
 fn is_marked(recording: &[u8]) -> bool
@@ -119,6 +95,12 @@ fn fault_at(recording: &[u8], at: usize) -> u8
     0
 }
 
+fn fault_of(number: u8, place: usize) -> Fault
+    ensures { λ r. ⌜ r ≡ faultOf number place ⌝ }
+{
+    Fault { number, place }
+}
+
 // The place of the first faulty entry, or the recording's end.
 fn first_faulty(recording: &[u8]) -> usize
     ensures { λ r. ⌜ r ≡ firstFaulty (now (recording .entry)) (entriesOf (now (recording .entry)) entriesStart) ⌝ }
@@ -133,43 +115,25 @@ fn first_faulty(recording: &[u8]) -> usize
     recording.len()
 }
 
-// The number of the first faulty entry, or 0.
-fn first_fault(recording: &[u8]) -> u8
-    ensures { λ r. ⌜ r ≡ firstFault (now (recording .entry)) (entriesOf (now (recording .entry)) entriesStart) ⌝ }
-{
-    let at = first_faulty(recording);
-    if at < recording.len() {
-        return fault_at(recording, at);
-    }
-    0
-}
-
-// 0, or why the recording cannot be read: 22 too long, 23 mark, 24 version, 25 direction, 26 cut short.
-pub fn check(recording: &[u8]) -> u8
+// What is wrong with a recording, and at which byte: 22 the first byte too many, 23 the mark, 24 the version, 25 or 26 the first
+// faulty entry. Where nothing is, 0 and the recording's end.
+pub fn check(recording: &[u8]) -> Fault
     ensures { λ r. ⌜ ChecksRecording (now (recording .entry)) r ⌝ }
 {
     if LONGEST < recording.len() {
-        return 22;
+        return fault_of(22, LONGEST);
     }
     if !is_marked(recording) {
-        return 23;
+        return fault_of(23, 0);
     }
     if !has_version(recording) {
-        return 24;
+        return fault_of(24, VERSION);
     }
-    first_fault(recording)
-}
-
-// At which byte it is wrong: the first too many, the mark, the version or the faulty entry; where it is fine, its end.
-pub fn faulty(recording: &[u8]) -> usize
-    ensures { λ r. ⌜ PlacesFault (now (recording .entry)) r ⌝ }
-{
-    match check(recording) {
-        22 => LONGEST,
-        23 => 0,
-        24 => VERSION,
-        _ => first_faulty(recording),
+    let at = first_faulty(recording);
+    if at < recording.len() {
+        return fault_of(fault_at(recording, at), at);
     }
+    fault_of(0, at)
 }
 
 // How many bytes stand before the first packet, all of them where there is none. A wait ends the look: nothing more comes.
@@ -267,59 +231,9 @@ fn seek(recording: &[u8], place: usize) -> Found
 pub fn find(recording: &[u8], place: usize) -> Found
     ensures { λ r. ⌜ Finds (now (recording .entry)) place r ⌝ }
 {
-    let fault = check(recording);
+    let fault = check(recording).number;
     if fault != 0 {
         return nothing(fault, place);
     }
     seek(recording, place)
-}
-
-// So many bytes from a place on, as a part of the recording itself, or as many of them as there are.
-pub fn part<'a>(recording: &'a [u8], start: usize, length: usize) -> &'a [u8]
-    ensures { λ r. ⌜ PartOf (recording .entry) start length r ⌝ }
-{
-    let from = lists::at_most(start, recording.len());
-    let n = lists::at_most(length, recording.len() - from);
-    &recording[from..from + n]
-}
-
-// The plain reader: the next host packet from a place on.
-pub fn next<'a>(recording: &'a [u8], place: usize) -> Handed<'a>
-    ensures { λ r. ⌜ HandsBack (recording .entry) place r ⌝ }
-{
-    let f = find(recording, place);
-    let content = part(recording, f.start, f.length);
-    Handed {
-        number: f.number,
-        kind: f.kind,
-        content,
-        next: f.next,
-    }
-}
-
-// The small reader, at the recording's start.
-pub fn open<'a>(recording: &'a [u8]) -> Reader<'a>
-    ensures { λ r. ⌜ ReadsFrom (recording .entry) 0 r ⌝ }
-{
-    Reader {
-        recording,
-        place: 0,
-    }
-}
-
-// The next host packet from the reader's place on.
-pub fn read<'a>(reader: Reader<'a>) -> Handed<'a>
-    ensures { λ r. ⌜ HandsBack (reader .entry .recording) (reader .entry .place) r ⌝ }
-{
-    next(reader.recording, reader.place)
-}
-
-// The reader at another place: behind a packet that it handed back, at that packet's `next`.
-pub fn moved<'a>(reader: Reader<'a>, place: usize) -> Reader<'a>
-    ensures { λ r. ⌜ ReadsFrom (reader .entry .recording) place r ⌝ }
-{
-    Reader {
-        recording: reader.recording,
-        place,
-    }
 }

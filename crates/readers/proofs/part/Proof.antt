@@ -1,10 +1,10 @@
 use native.Mathlib.Omega.{arith}
-use Rattle.recordings.proofs.Cuts.{part-bytes}
+use Rattle.readers.proofs.Cuts.{part-bytes}
 use mathlib.Core.Path.{refl, ap}
 use Prim.Native.Nat.{_+_}
 use borrow.Author.Needs.{needs}
-use Rattle.recordings.proofs.part.Statement.{statement}
-use Rattle.recordings.proofs.part.Tie as tie
+use Rattle.readers.proofs.part.Statement.{statement}
+use Rattle.readers.proofs.part.Tie as tie
 
 returns : tie.Need-returns
 returns c =

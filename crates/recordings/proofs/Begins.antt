@@ -5,22 +5,17 @@ use mathlib.Core.List.{List, [], _∷_}
 use mathlib.Core.Logic.{⊎-elim}
 use Prim.Native.Nat.{ℕ, _+_}
 use native.Mathlib.Omega.{arith}
-use lib.ListN.{getD}
-use denote.Ref.{RefT, now}
 use Rattle.lists.specs.Tests.{when_then_else_}
 use Rattle.recordings.specs.declared.Found.{Found}
-use Rattle.recordings.specs.declared.Handed.{Handed}
 use Rattle.recordings.specs.Recording.{entriesOf, recordingFault}
 use Rattle.recordings.specs.Next.{before, fromOf, restOf, holdsPacket, packetFrom, inEntry, firstPacket, nextPacket}
-use Rattle.recordings.specs.Handed.{HandsBack, OwnPacket}
-use Rattle.recordings.proofs.Asked.{inside}
 use Rattle.recordings.proofs.Faults.{fault-number}
 use Rattle.recordings.proofs.Looks.{refuses, seeks}
 
 -- where the packet of an answer begins
-record Begins (r : List ℕ) (f : Found) : Type 0 where
-  at : ℕ
-  is : f ≡ packetFrom r at
+pub record Begins (r : List ℕ) (f : Found) : Type 0 where
+  pub at : ℕ
+  pub is : f ≡ packetFrom r at
 
 begins-in : (r : List ℕ) (place : ℕ) (entries : List ℕ) → firstPacket r place entries .number ≡ 3 → Begins r (firstPacket r place entries)
 unfolding firstPacket inEntry when_then_else_
@@ -32,29 +27,11 @@ begins-in r place (at ∷ more) n = go (holdsPacket r place at) refl (begins-in 
     go false e ih = rw e (ih (rw e at n))
 
 -- a packet is found in a recording that is fine alone
-found-fine : (r : List ℕ) (place : ℕ) → nextPacket r place .number ≡ 3 → recordingFault r ≡ 0
+pub found-fine : (r : List ℕ) (place : ℕ) → nextPacket r place .number ≡ 3 → recordingFault r ≡ 0
 found-fine r place n =
     ⊎-elim (λ z. z) (λ h. absurd (omega (arith, ap (λ (f : Found). f .number) (refuses r place (recordingFault r) refl (λ z. omega arith))))) (fault-number r)
 
-begins : (r : List ℕ) (place : ℕ) → nextPacket r place .number ≡ 3 → Begins r (nextPacket r place)
+pub begins : (r : List ℕ) (place : ℕ) → nextPacket r place .number ≡ 3 → Begins r (nextPacket r place)
 begins r place n =
     let e = seeks r place (found-fine r place n) in
     rw (sym e) (begins-in r place (entriesOf r 5) (ap (λ (f : Found). f .number) e ∙ n))
-
-pub own-packet : (recording : RefT (List ℕ)) (place : ℕ) (h : Handed) → HandsBack recording place h → h .number ≡ 3 → OwnPacket recording h
-own-packet recording place h b n =
-    let r = now recording in
-    let f = nextPacket r place in
-    let m : f .number ≡ 3 = sym (b .number) ∙ n in
-    let p = begins r place m in
-    let s : f .start ≡ p .at + 2 = ap (λ (g : Found). g .start) (p .is) in
-    let l : f .length ≡ getD r (p .at + 1) 0 = ap (λ (g : Found). g .length) (p .is) in
-    let i = inside r (found-fine r place m) place m in
-    record {
-      at = p .at;
-      kind = b .kind ∙ ap (λ (g : Found). g .kind) (p .is);
-      block = b .content .block;
-      place = b .content .place ∙ omega arith;
-      bytes = b .content .bytes ∙ rw (s, l);
-      inside = omega arith;
-    }

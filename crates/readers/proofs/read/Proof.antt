@@ -1,4 +1,4 @@
--- `recordings::read` meets its contract: a walk of its MIR, by hand. The reader is taken apart, and `next` is called on the recording and the place. Its result is the function's.
+-- `readers::read` meets its contract: a walk of its MIR, by hand. The reader is taken apart, and `next` is called on the recording and the place. Its result is the function's.
 -- All that the proof knows of `next` is that it meets its contract. Nothing need be had of the reader at exit: it holds a `&`, and a number.
 use mathlib.Core.Path.{_≡_, refl}
 use Prim.Native.Nat.{ℕ, _<_, _^_}
@@ -41,21 +41,21 @@ use denote.Triple.Spec.{Meets, tripleOf}
 use denote.Triple.Table.{entered, cited}
 use denote.Triple.Walked.{says, Stays, stay-dropped, walkOf, goes-dropped, Walks, ends-at, walked, walk-meets}
 use denote.Exit.{yes}
-use Rattle.recordings.specs.Handed.{HandsBack}
-use Rattle.recordings.specs.declared.Handed.{Handed}
-use Rattle.recordings.specs.declared.Reader.{Reader}
-use Rattle.recordings.proofs.Handed as R
-use Rattle.recordings.proofs.Handed.Laws as R′
-use Rattle.recordings.proofs.Reader as T
-use Rattle.recordings.proofs.Reader.Laws as T′
-use Rattle.recordings.proofs.next as next
-use Rattle.recordings.proofs.next.Symbol as next-def
-use Rattle.recordings.proofs.next.Symbol.{name as #next}
-use Rattle.recordings.proofs.next.Met as next-thm
-use Rattle.recordings.proofs.read.Key.{name as #read}
-use Rattle.recordings.proofs.read as read
-use Rattle.recordings.proofs.read.Statement as stated
-use Rattle.recordings.proofs.read.Code as code
+use Rattle.readers.specs.Handed.{HandsBack}
+use Rattle.readers.specs.declared.Handed.{Handed}
+use Rattle.readers.specs.declared.Reader.{Reader}
+use Rattle.readers.proofs.Handed as R
+use Rattle.readers.proofs.Handed.Laws as R′
+use Rattle.readers.proofs.Reader as T
+use Rattle.readers.proofs.Reader.Laws as T′
+use Rattle.readers.proofs.next as next
+use Rattle.readers.proofs.next.Symbol as next-def
+use Rattle.readers.proofs.next.Symbol.{name as #next}
+use Rattle.readers.proofs.next.Met as next-thm
+use Rattle.readers.proofs.read.Key.{name as #read}
+use Rattle.readers.proofs.read as read
+use Rattle.readers.proofs.read.Statement as stated
+use Rattle.readers.proofs.read.Code as code
 
 -- the reader's type, over the signature's lifetimes
 abbrev B : Lfts 1 → RattleType
@@ -153,4 +153,4 @@ read-spec 𝓤 H 𝓜 𝓖 𝓡 =
     entered 𝓤 H (tripleOf 𝓤 H (𝓖 .A) read.signature (read.spec 𝓤 H (𝓖 .A) (𝓜 .mem) (𝓡 .run)))
     (tables 𝓤 H 𝓜 𝓡 code.env .C) (tables 𝓤 H 𝓜 𝓡 code.env .Λ) #read code.function (code.unfolded 𝓤 H 𝓜 𝓡)
     (read-meets 𝓤 H (𝓖 .A) (givenOf 𝓤 H 𝓜 𝓖) (𝓜 .mem) (𝓡 .run) (tablesOf 𝓤 H 𝓜 (tables 𝓤 H 𝓜 𝓡 code.env))
-    (cited 𝓤 H (Next 𝓤 H (𝓖 .A) (𝓜 .mem) (𝓡 .run)) 𝓜 𝓡 code.env #next next-def.routine code.calls-recordings·next (next-thm.met 𝓤 H 𝓜 𝓖 𝓡)))
+    (cited 𝓤 H (Next 𝓤 H (𝓖 .A) (𝓜 .mem) (𝓡 .run)) 𝓜 𝓡 code.env #next next-def.routine code.calls-readers·next (next-thm.met 𝓤 H 𝓜 𝓖 𝓡)))

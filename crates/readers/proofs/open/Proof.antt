@@ -1,4 +1,4 @@
--- `recordings::open` meets its contract: a walk of its MIR, by hand. A `Reader` is made of the slice passed and 0, in the result's local.
+-- `readers::open` meets its contract: a walk of its MIR, by hand. A `Reader` is made of the slice passed and 0, in the result's local.
 -- Nothing need be had of the parameter at exit, since it is a `&`: what the slice owns goes into the result.
 use mathlib.Core.Path.{refl}
 use Prim.Native.Nat.{ℕ}
@@ -34,13 +34,13 @@ use denote.Triple.Spec.{Meets, tripleOf}
 use denote.Triple.Table.{entered}
 use denote.Triple.Walked.{says, Stays, stay-dropped, walkOf, goes-dropped, Walks, ends-at, walked, walk-meets}
 use denote.Exit.{yes}
-use Rattle.recordings.specs.declared.Reader.{Reader}
-use Rattle.recordings.proofs.Reader as T
-use Rattle.recordings.proofs.Reader.Laws as T′
-use Rattle.recordings.proofs.open.Key.{name as #open}
-use Rattle.recordings.proofs.open as opens
-use Rattle.recordings.proofs.open.Statement as stated
-use Rattle.recordings.proofs.open.Code as code
+use Rattle.readers.specs.declared.Reader.{Reader}
+use Rattle.readers.proofs.Reader as T
+use Rattle.readers.proofs.Reader.Laws as T′
+use Rattle.readers.proofs.open.Key.{name as #open}
+use Rattle.readers.proofs.open as opens
+use Rattle.readers.proofs.open.Statement as stated
+use Rattle.readers.proofs.open.Code as code
 
 abbrev stayed : Stays (opens.ended .signature .params) (opens.ended .kept)
 stayed = (stay-dropped _ yes, tt)

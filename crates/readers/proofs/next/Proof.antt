@@ -1,4 +1,4 @@
--- `recordings::next` meets its contract: a walk of its MIR, by hand. `find` is called, then `part` at the start and the length that it found, and the result is made of the other numbers and that part. All that the proof knows of the two is that each meets its contract.
+-- `readers::next` meets its contract: a walk of its MIR, by hand. `find` is called, then `part` at the start and the length that it found, and the result is made of the other numbers and that part. All that the proof knows of the two is that each meets its contract.
 -- A `&[u8]` is Copy: what the recording owns is had twice, once for each call. What the part owns goes into the result.
 use mathlib.Core.Path.{_≡_, refl, ap, subst}
 use Prim.Native.Nat.{ℕ, _<_, _^_}
@@ -38,26 +38,26 @@ use denote.Triple.Spec.{Meets, tripleOf}
 use denote.Triple.Table.{entered, cited}
 use denote.Triple.Walked.{says, Stays, stay-dropped, walkOf, goes-dropped, Walks, ends-at, walked, walk-meets}
 use denote.Exit.{yes}
 use Rattle.recordings.specs.Next.{nextPacket}
-use Rattle.recordings.specs.Handed.{PartOf, HandsOn}
+use Rattle.readers.specs.Handed.{PartOf, HandsOn}
 use Rattle.recordings.specs.declared.Found.{Found}
-use Rattle.recordings.specs.declared.Handed.{Handed}
+use Rattle.readers.specs.declared.Handed.{Handed}
 use Rattle.recordings.proofs.Found as F
 use Rattle.recordings.proofs.Found.Laws as F′
-use Rattle.recordings.proofs.Handed as T
-use Rattle.recordings.proofs.Handed.Laws as T′
+use Rattle.readers.proofs.Handed as T
+use Rattle.readers.proofs.Handed.Laws as T′
 use Rattle.recordings.proofs.find as find
 use Rattle.recordings.proofs.find.Symbol as find-def
 use Rattle.recordings.proofs.find.Symbol.{name as #find}
 use Rattle.recordings.proofs.find.Met as find-thm
-use Rattle.recordings.proofs.part as part
-use Rattle.recordings.proofs.part.Symbol as part-def
-use Rattle.recordings.proofs.part.Symbol.{name as #part}
-use Rattle.recordings.proofs.part.Met as part-thm
-use Rattle.recordings.proofs.next.Key.{name as #next}
-use Rattle.recordings.proofs.next as next
-use Rattle.recordings.proofs.next.Statement as stated
-use Rattle.recordings.proofs.next.Code as code
+use Rattle.readers.proofs.part as part
+use Rattle.readers.proofs.part.Symbol as part-def
+use Rattle.readers.proofs.part.Symbol.{name as #part}
+use Rattle.readers.proofs.part.Met as part-thm
+use Rattle.readers.proofs.next.Key.{name as #next}
+use Rattle.readers.proofs.next as next
+use Rattle.readers.proofs.next.Statement as stated
+use Rattle.readers.proofs.next.Code as code
 
 abbrev stayed : Stays (next.ended .signature .params) (next.ended .kept)
 stayed = (stay-dropped _ yes, (stay-dropped _ yes, tt))
@@ -189,4 +189,4 @@ next-spec 𝓤 H 𝓜 𝓖 𝓡 =
     (tables 𝓤 H 𝓜 𝓡 code.env .C) (tables 𝓤 H 𝓜 𝓡 code.env .Λ) #next code.function (code.unfolded 𝓤 H 𝓜 𝓡)
     (next-meets 𝓤 H (𝓖 .A) (givenOf 𝓤 H 𝓜 𝓖) (𝓜 .mem) (𝓡 .run) (tablesOf 𝓤 H 𝓜 (tables 𝓤 H 𝓜 𝓡 code.env))
     (cited 𝓤 H (Find 𝓤 H (𝓖 .A) (𝓜 .mem) (𝓡 .run)) 𝓜 𝓡 code.env #find find-def.routine code.calls-recordings·find (find-thm.met 𝓤 H 𝓜 𝓖 𝓡))
-    (cited 𝓤 H (Part 𝓤 H (𝓖 .A) (𝓜 .mem) (𝓡 .run)) 𝓜 𝓡 code.env #part part-def.routine code.calls-recordings·part (part-thm.met 𝓤 H 𝓜 𝓖 𝓡)))
+    (cited 𝓤 H (Part 𝓤 H (𝓖 .A) (𝓜 .mem) (𝓡 .run)) 𝓜 𝓡 code.env #part part-def.routine code.calls-readers·part (part-thm.met 𝓤 H 𝓜 𝓖 𝓡)))

@@ -1,4 +1,4 @@
--- `recordings::moved` meets its contract: a walk of its MIR, by hand. A `Reader` is made anew of the slice that the one passed holds, and another place.
+-- `readers::moved` meets its contract: a walk of its MIR, by hand. A `Reader` is made anew of the slice that the one passed holds, and another place.
 -- Nothing need be had of the parameters at exit: what the reader owns, with the facts of the new place put in, is what the result owns.
 use mathlib.Core.Path.{refl}
 use Prim.Native.Nat.{ℕ, _<_, _^_}
@@ -34,13 +34,13 @@ use denote.Triple.Spec.{Meets, tripleOf}
 use denote.Triple.Table.{entered}
 use denote.Triple.Walked.{says, Stays, stay-dropped, walkOf, goes-dropped, Walks, ends-at, walked, walk-meets}
 use denote.Exit.{yes}
-use Rattle.recordings.specs.declared.Reader.{Reader}
-use Rattle.recordings.proofs.Reader as T
-use Rattle.recordings.proofs.Reader.Laws as T′
-use Rattle.recordings.proofs.moved.Key.{name as #moved}
-use Rattle.recordings.proofs.moved as moved
-use Rattle.recordings.proofs.moved.Statement as stated
-use Rattle.recordings.proofs.moved.Code as code
+use Rattle.readers.specs.declared.Reader.{Reader}
+use Rattle.readers.proofs.Reader as T
+use Rattle.readers.proofs.Reader.Laws as T′
+use Rattle.readers.proofs.moved.Key.{name as #moved}
+use Rattle.readers.proofs.moved as moved
+use Rattle.readers.proofs.moved.Statement as stated
+use Rattle.readers.proofs.moved.Code as code
 
 -- the reader's type, over the signature's lifetimes
 abbrev B : Lfts 1 → RattleType

@@ -4,10 +4,10 @@ use mathlib.Core.Path.{_≡_}
 use mathlib.Core.List.{List}
 use lib.ListN.{length, getD, take, drop}
 use denote.Ref.{RefT, ptr, now}
 use Rattle.recordings.specs.declared.Found.{Found}
-use Rattle.recordings.specs.declared.Handed.{Handed}
-use Rattle.recordings.specs.declared.Reader.{Reader}
+use Rattle.readers.specs.declared.Handed.{Handed}
+use Rattle.readers.specs.declared.Reader.{Reader}
 use Rattle.recordings.specs.Next.{nextPacket}
 
 -- a slice points to a block of memory and a place in it: it is a part of the whole, n bytes from a place on or as many of them
 -- as there are, where it lies in the whole's own block, so many places behind the whole's first byte
