@@ -1,5 +1,6 @@
 pub mod Asked
 pub mod Begins
+pub mod Called
 pub mod Entries
 pub mod Faults
 pub mod Firsts

@@ -8,24 +8,24 @@ use Rattle.lists.specs.Promise.{Determined}
 use Rattle.lists.proofs.Theorems.{one}
 use Rattle.packets.specs.declared.Packet as packets
 use Rattle.packets.specs.Hold.{holdOf}
-use Rattle.framing.specs.Line.{Tally, Calls, line}
-use Rattle.framing.proofs.Theorems.{cut-anywhere, calls-end}
+use Rattle.framing.specs.Line.{Tally, Calls}
 use Rattle.recordings.specs.Recording.{direction, entryEnd, entriesOf, recordingFault, ChecksRecording, Passes}
-use Rattle.recordings.specs.Next.{fromOf, FindsIn, Finds}
-use Rattle.recordings.specs.Asking.{AskedEntry, entryBytes, entryPackets, AllOrNone}
+use Rattle.recordings.specs.Next.{FindsIn, Finds}
+use Rattle.recordings.specs.Asking.{AskedReader, AskedEntry, entryBytes, entryPackets, CalledOn, AllOrNone}
 use Rattle.recordings.proofs.Asked as asked
+use Rattle.recordings.proofs.Called as calls
 use Rattle.recordings.proofs.Entries as entries
 use Rattle.recordings.proofs.Looks as looks
-use Rattle.recordings.proofs.Parts as parts
 
--- "within an entry its packets equal those that line calls find from an empty hold", however the bytes are cut into calls: asking
--- in a host entry until there is no more finds them, in order.
-pub as-line-calls : (r : List ℕ) (at most : ℕ) (found : List packets.Packet) (t : Tally) → direction r at ≡ 0 → AskedEntry r at 0 found → Calls most (holdOf []) (entryBytes r at) t
+-- "within an entry its packets equal those that line calls find from an empty hold", however the bytes are cut into calls: asking the
+-- reader until there is no more finds those of each host entry in turn,
+pub as-line-calls : (r : List ℕ) (found called : List packets.Packet) → recordingFault r ≡ 0 → AskedReader r 0 found → CalledOn r (entriesOf r 5) called → found ≡ called
+as-line-calls r found called z a c = asked.asked-alike a (asked.asks-from r z 0) ∙ calls.called-on c
+
+-- and asking in one host entry finds those of its bytes.
+pub entry-as-line-calls : (r : List ℕ) (at most : ℕ) (found : List packets.Packet) (t : Tally) → direction r at ≡ 0 → AskedEntry r at 0 found → Calls most (holdOf []) (entryBytes r at) t
     → found ≡ t .packets
-as-line-calls r at most found t d a c =
-    let e : fromOf 0 at ≡ at + 3 = omega arith in
-    asked.asked-alike a (asked.entry-from r at 0) ∙ parts.host r 0 at d
-    ∙ rw e (ap (λ (u : Tally). u .packets) (sym (cut-anywhere c (calls-end 1 (omega arith) (holdOf []) (entryBytes r at)))))
+entry-as-line-calls r at most found t d a c = asked.asked-alike a (asked.entry-from r at 0) ∙ calls.in-entry r at d c
 
 -- All packets of all host entries, or none at all.
 pub all-or-none : (r : List ℕ) → AllOrNone r

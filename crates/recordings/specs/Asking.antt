@@ -6,7 +6,8 @@ use lib.ListN.{take, drop}
 use Rattle.lists.specs.Tests.{when_then_else_, _=?_}
 use Rattle.packets.specs.declared.Packet as packets
 use Rattle.packets.specs.Packet.{packetOf}
-use Rattle.framing.specs.Line.{line}
+use Rattle.packets.specs.Hold.{holdOf}
+use Rattle.framing.specs.Line.{Tally, Calls, line}
 use Rattle.recordings.specs.declared.Found.{Found}
 use Rattle.recordings.specs.Recording.{entriesStart, entryHead, direction, entryEnd, entriesOf, recordingFault}
 use Rattle.recordings.specs.Next.{restOf, noPacket, inEntry, nextPacket}
@@ -39,6 +40,13 @@ entryPackets r place at = when direction r at =? 0 then line (restOf r place at)
 unfoldable pub packetsOf : List ℕ → ℕ → List ℕ → List packets.Packet
 packetsOf r place [] = []
 packetsOf r place (at ∷ more) = entryPackets r place at ++ packetsOf r place more
+
+-- CalledOn r entries called: line calls on the bytes of each host entry in turn, from an empty hold and cut in any way, find these
+pub data CalledOn (r : List ℕ) : List ℕ → List packets.Packet → Type 0 where
+  none : CalledOn r [] []
+  host : {at most : ℕ} {more : List ℕ} {called : List packets.Packet} {t : Tally} → direction r at ≡ 0 → Calls most (holdOf []) (entryBytes r at) t → CalledOn r more called
+      → CalledOn r (at ∷ more) (t .packets ++ called)
+  panel : {at : ℕ} {more : List ℕ} {called : List packets.Packet} → (direction r at ≡ 0 → ⊥) → CalledOn r more called → CalledOn r (at ∷ more) called
 
 -- "The whole recording is checked before any packet is handed back": a faulty one hands back nothing, whatever the place; of one
 -- that is fine, asking from the start until there is no more comes to an end with the packets of all host entries, in order,

@@ -22,8 +22,10 @@ const CHECKSUM: usize = 2;
 // Where the version stands, behind the mark.
 const VERSION: usize = 3;
 
-// The direction of an entry with what the host sent.
-const HOST: u8 = 0;
+// The direction of an entry with what the host sent, and of one with what the panel sent.
+pub const HOST: u8 = 0;
+
+pub const PANEL: u8 = 1;
 
 // The numbers of an answer: there is no more, or a packet. 22 to 26 refuse the recording.
 pub const NO_MORE: u8 = 1;
@@ -86,7 +88,7 @@ fn fault_at(recording: &[u8], at: usize) -> u8
     requires { ⌜ at < length (now recording) ⌝ }
     ensures { λ r. ⌜ r ≡ entryFault (now (recording .entry)) at ⌝ }
 {
-    if 1 < recording[at] {
+    if PANEL < recording[at] {
         return 25;
     }
     if recording.len() - at < size_at(recording, at) {
