@@ -1,7 +1,8 @@
 // The panel on standard input and output: host bytes in, reply packets out, so that a real host can be attached. With the
-// argument `glass` it also draws the glass on standard error.
+// argument `glass` it also draws the glass on standard error, and with `record FILE` it writes a recording of the line.
 mod font;
 mod glass;
+mod tape;
 
 use kept::Session;
 use kept::going;
@@ -15,6 +16,8 @@ use session::sizes::PIECE;
 use session::sizes::REPLY;
 use session::sizes::SAID;
 use session::sizes::STATE;
+use tape::ENTRY;
+use tape::Tape;
 
 // Writes the front of a buffer to a file; whether all of it was written.
 fn put(file: i32, out: &[u8], length: usize) -> bool {
@@ -56,9 +59,10 @@ fn told(
     }
 }
 
-// The steps of a session, to its end.
+// The steps of a session, to its end, on tape.
 fn hear(
     drawn: bool,
+    begun: Tape,
     piece: &mut [u8; PIECE],
     state: &mut [u8; STATE],
     picture: &mut [u8; PICTURE],
@@ -69,17 +73,22 @@ fn hear(
     said: &mut [u8; SAID],
 ) -> Session {
     let mut s = kept::started();
+    let mut t = begun;
+    let mut host = [0u8; ENTRY];
+    let mut panel = [0u8; ENTRY];
     let mut steps: u64 = 0;
     while going(steps, s.over) {
         s = session::step(s, piece, state, picture, font, list, reply, faults, said);
+        t = tape::with_call(t, s, piece, reply, state, &mut host, &mut panel);
         s = told(s, drawn, picture, list, reply);
         steps += 1;
     }
+    tape::written(t, &mut host, &mut panel);
     s
 }
 
 // From power-on to the end of the input. A failed read is told on standard error, and is not taken for the end.
-fn run(drawn: bool) {
+fn run(drawn: bool, tape: Tape) {
     let font = font::with_block();
     let mut state = [0u8; STATE];
     let mut picture = [0u8; PICTURE];
@@ -94,6 +103,7 @@ fn run(drawn: bool) {
     let mut faults = [0u8; FAULTS];
     let s = hear(
         drawn,
+        tape,
         &mut piece,
         &mut state,
         &mut picture,
@@ -108,23 +118,57 @@ fn run(drawn: bool) {
     }
 }
 
-fn is_glass(word: &[u8]) -> bool {
-    let front = (lists::at(word, 0) == b'g')
-        & (lists::at(word, 1) == b'l')
-        & (lists::at(word, 2) == b'a');
-    front & (lists::at(word, 3) == b's') & (lists::at(word, 4) == b's') & (word.len() == 5)
+// Whether the front of the bytes is the word.
+fn begins(bytes: &[u8], word: &[u8]) -> bool {
+    let mut i = 0;
+    while i < word.len() {
+        if lists::at(bytes, i) != word[i] {
+            return false;
+        }
+        i += 1;
+    }
+    true
+}
+
+// Whether an argument is the word.
+fn is_word(i: usize, word: &[u8]) -> bool {
+    let mut room = [0u8; 8];
+    let n = os::arg(i, &mut room);
+    begins(&room, word) & (n == word.len())
+}
+
+// On tape in the file that an argument names.
+fn record(i: usize, drawn: bool) {
+    let mut name = io::buffer();
+    let n = os::arg(i, &mut name);
+    if os::errno() != 0 {
+        os::fail(b"emulator: the recording's name");
+        return;
+    }
+    let tape = tape::begin(&name[..n]);
+    if tape.on {
+        run(drawn, tape);
+    }
 }
 
 fn main() {
-    let mut word = [0u8; 8];
-    let n = os::arg(1, &mut word);
-    if os::arg_count() < 2 {
-        run(false);
-        return;
+    let n = os::arg_count();
+    let glass = is_word(1, b"glass");
+    let recorded = is_word(1, b"record");
+    if n < 2 {
+        run(false, tape::none());
+    } else if glass & (n == 2) {
+        run(true, tape::none());
+    } else if recorded & (n == 3) {
+        record(2, false);
+    } else if recorded & (n == 4) & is_word(3, b"glass") {
+        record(2, true);
+    } else if glass & (n == 4) & is_word(2, b"record") {
+        record(3, true);
+    } else {
+        io::write_all(
+            STDERR_FILENO,
+            b"emulator: the arguments are glass, and record with the name of a file\n",
+        );
     }
-    if is_glass(&word[..n]) {
-        run(true);
-        return;
-    }
-    io::write_all(STDERR_FILENO, b"emulator: the only argument is glass\n");
 }

@@ -8,21 +8,25 @@ use Rattle.emulator.proofs.hear.Statement.{statement}
 use Rattle.emulator.proofs.hear.Tie as tie
 
 abbrev Inv-loop : tie.InvT-loop
-Inv-loop drawn piece₀ state₀ picture₀ font list₀ reply₀ faults₀ said₀ s₀ steps₀ piece state picture list reply faults said s steps = Unit {0}
+Inv-loop drawn piece₀ state₀ picture₀ font list₀ reply₀ faults₀ said₀ s₀ t₀ host₀ panel₀ steps₀ piece state picture list reply faults said s t host panel steps =
+    Unit {0}
 
 abbrev μ-loop : tie.MeasureT-loop
-μ-loop drawn piece₀ state₀ picture₀ font list₀ reply₀ faults₀ said₀ s₀ steps₀ piece state picture list reply faults said s steps = largest - steps
+μ-loop drawn piece₀ state₀ picture₀ font list₀ reply₀ faults₀ said₀ s₀ t₀ host₀ panel₀ steps₀ piece state picture list reply faults said s t host panel steps =
+    largest - steps
 
 add-steps : tie.Need-add-steps Inv-loop μ-loop
 add-steps c =
-    let tested = c .before .before .before .before .before .before .before .before .before .before .before .before in
+    let stepped = c .before .before .before .before .before .before .before .before .before .before in
+    let tested = stepped .before .before .before .before .before .before .before .before in
     let loop = tested .before .before .loop in
     let can = countable (loop .steps) (loop .s .over) (sym (tested .before .going .ensures) ∙ tested .if1 .taken) in
     omega arith
 
 loop-less : tie.Need-loop-less Inv-loop μ-loop
 loop-less c =
-    let tested = c .before .before .before .before .before .before .before .before .before .before .before .before in
+    let stepped = c .before .before .before .before .before .before .before .before .before .before in
+    let tested = stepped .before .before .before .before .before .before .before .before in
     let loop = tested .before .before .loop in
     let can = countable (loop .steps) (loop .s .over) (sym (tested .before .going .ensures) ∙ tested .if1 .taken) in
     omega arith
@@ -38,7 +42,9 @@ hear-spec =
     (λ c κs. search needs)
     (λ c κs. search needs)
     (λ c κs. search needs)
+    (λ c κs. search needs)
     add-steps
     loop-less
     (λ c. search needs)
+    (λ c κs. search needs)
     (λ c. search needs))
