@@ -12,12 +12,15 @@
 // Of the host's side: "ask" takes the first byte as a code and composes it with the rest, "text" the first two as a column and a
 // row; both print what the call says and the packet. "read" prints what a panel means by the bytes: the number, the kind, the
 // command, how many values and the values.
+// Of recordings: "tape" puts bytes behind those of the case's recording, and "fill" a number of times the byte behind that number;
+// "next" asks for the next host packet from a place on and prints what the call says, and the packet's data.
 
 mod buffers;
 mod device;
 mod frames;
 mod hosts;
 mod show;
+mod tapes;
 mod text;
 mod value;
 mod words;
@@ -27,6 +30,8 @@ mod wrong;
 fn run(script: &[u8]) {
     let mut buffers = device::begin();
     let mut held = packets::empty();
+    let mut tape = [0u8; tapes::ROOM];
+    let mut size: usize = 0;
     let mut at: usize = 0;
     while at < script.len() {
         let end = text::until(script, at, b'\n');
@@ -40,6 +45,7 @@ fn run(script: &[u8]) {
         buffers = device::run(word, line, bytes, buffers);
         show::run(word, line, buffers);
         hosts::run(word, bytes);
+        size = tapes::run(word, line, bytes, &mut tape, size);
     }
 }
 

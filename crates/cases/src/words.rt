@@ -54,7 +54,12 @@ pub const TEXT: usize = 23;
 
 pub const READ: usize = 24;
 
-const OTHER: usize = 25;
+pub const NEXT: usize = 25;
+
+// A recording is put together, and nothing is printed.
+pub const TAPE: usize = 26;
+
+pub const FILL: usize = 27;
 
 // How many words of the list stand before the word; a blank stands behind each.
 fn place(word: &[u8], list: &[u8]) -> usize {
@@ -85,9 +90,9 @@ pub fn number(line: &[u8]) -> usize {
     let word = &line[..end];
     let n = place(
         word,
-        b"# set unfiled count font line value faults cuts press release lend high low sizes power state cell picture scan compose sum ask text read ",
+        b"# set unfiled count font line value faults cuts press release lend high low sizes power state cell picture scan compose sum ask text read next tape fill ",
     );
-    if (PRESS <= n) & (n < OTHER) {
+    if (PRESS <= n) & (n < TAPE) {
         crate::text::word(word);
     }
     n

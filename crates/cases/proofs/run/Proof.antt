@@ -7,10 +7,10 @@ use Rattle.cases.proofs.run.Statement.{statement}
 use Rattle.cases.proofs.run.Tie as tie
 
 abbrev Inv-loop : tie.InvT-loop
-Inv-loop script buffers₀ held₀ at₀ buffers held at = at ≤ length script + 1
+Inv-loop script buffers₀ held₀ tape₀ size₀ at₀ buffers held tape size at = at ≤ length script + 1
 
 abbrev μ-loop : tie.MeasureT-loop
-μ-loop script buffers₀ held₀ at₀ buffers held at = length script - at
+μ-loop script buffers₀ held₀ tape₀ size₀ at₀ buffers held tape size at = length script - at
 
 array-share-prefix-room : tie.Need-array-share-prefix-room Inv-loop μ-loop
 array-share-prefix-room c = search needs
@@ -37,6 +37,7 @@ run-spec =
     (λ c κs. search needs)
     array-share-prefix-room
     slice-aggregate-bytes
+    (λ c κs. search needs)
     (λ c κs. search needs)
     (λ c κs. search needs)
     (λ c κs. search needs)
