@@ -1,16 +1,22 @@
-/* Naupelys, the host's side: packets composed for a panel, and what a panel writes read back into values.
+/* Naupelys, the host's side: packets composed for a panel, what a panel writes read back into values, and recordings of a line.
  *
  * The composers refuse exactly what the panel would refuse, with the panel's own reason and place: they ask the same verdict. The
  * reader accepts exactly what a panel can write. Nothing is allocated and nothing is kept between calls. Every call returns,
  * whatever the bytes, numbers and sizes, and no caller has to check first. A pointer must point to as many bytes as its length
- * says (`said` to 16, `reading` to 26); a pointer whose length is 0 is not followed. No two lent buffers may overlap, but for
- * those that are `const`.
+ * says (`said` to 16, `reading` to 26; `place`, `type`, `start` and `length` to one number each); a pointer whose length is 0 is not
+ * followed. No two lent buffers may overlap, but for those that are `const`.
  *
  * The number that a call returns (a composer's also in said[0]):
  *
- *    3  done: the packet stands at the front of its buffer, or the bytes were read
+ *    1  no more packets in the recording                (naupelys_recording_next)
+ *    3  done: the packet stands at the front of its buffer, the bytes were read, or a packet was found
  *    4  refused: the panel would refuse this packet     (composers)
  *   21  the packet's buffer is not 26 bytes             (composers; before anything else is looked at)
+ *   22  the recording is above 65,535 bytes             (naupelys_recording_next, as all up to 26; the first of them that applies)
+ *   23  its mark is wrong or missing
+ *   24  its version is unknown or missing
+ *   25  an entry has a bad direction                    (25 and 26: of the first entry that has a fault, and 25 before 26)
+ *   26  an entry is cut short
  *   29  not exactly one reply, error reply or report that a panel can write   (naupelys_read_reply)
  *
  * With 4 and 21 the buffer is as it came; with 3 the bytes behind the packet are. The reasons and places of 4:
@@ -54,14 +60,21 @@ enum {
     NAUPELYS_HOST_PACKET = 26,
     NAUPELYS_HOST_SAID = 16,
     NAUPELYS_HOST_READING = 26,
-    NAUPELYS_HOST_DATA_MOST = 22
+    NAUPELYS_HOST_DATA_MOST = 22,
+    NAUPELYS_HOST_RECORDING_MOST = 65535
 };
 
 /* The number that a call returns. */
 enum {
+    NAUPELYS_HOST_NO_MORE = 1,
     NAUPELYS_HOST_DONE = 3,
     NAUPELYS_HOST_REFUSED = 4,
     NAUPELYS_HOST_BAD_BUFFER = 21,
+    NAUPELYS_HOST_TOO_LONG = 22,
+    NAUPELYS_HOST_NO_MARK = 23,
+    NAUPELYS_HOST_NO_VERSION = 24,
+    NAUPELYS_HOST_BAD_DIRECTION = 25,
+    NAUPELYS_HOST_CUT_SHORT = 26,
     NAUPELYS_HOST_UNREADABLE = 29
 };
 
@@ -157,6 +170,28 @@ uint8_t naupelys_compose_pin_config(uint8_t pin, uint8_t level, uint8_t config,
 /* 35: reads pin 0 to 12. */
 uint8_t naupelys_compose_read_pin(uint8_t pin,
                                   uint8_t *packet, size_t packet_size, uint8_t *said);
+
+/* Recordings of a line.
+ *
+ * A recording is a file, whole in memory, of at most 65,535 bytes: the mark P, L, R; a version of two bytes, low byte first, now 1; and
+ * entries. An entry is a direction byte, 0 for what the host sent and 1 for what the panel sent; a length of two bytes, low byte
+ * first; and that many bytes. A recording without entries is fine, and so is an entry without bytes.
+ *
+ * Packets are looked for in each host entry by itself, and found there as by a panel that holds nothing: a byte with which no packet
+ * begins is dropped, and what is still held at the entry's end is forgotten, so that a packet cut over two entries is not found. A
+ * packet of any type is one. What the panel sent is passed over.
+ */
+
+/* The next host packet of a recording from *place on. Begin with 0; each packet that is found leaves *place where the next is asked for.
+ *
+ * With 3, *type is the packet's type, its *length data bytes are recording[*start] and those behind it, and its type and length stand
+ * in the two bytes before them. With 1 and with 22 to 26 the four numbers are as they came.
+ *
+ * Any other place is taken too: one before an entry's bytes, inside its header or further ahead, means the entry's first byte; one inside
+ * its bytes means that byte; from one behind the recording on there is no more. Each call checks the whole recording before it looks,
+ * some steps for each entry, and hands back nothing of one that is refused. */
+uint8_t naupelys_recording_next(const uint8_t *recording, size_t recording_size,
+                                size_t *place, uint8_t *type, size_t *start, size_t *length);
 
 #ifdef __cplusplus
 }
