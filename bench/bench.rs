@@ -1,7 +1,8 @@
 //! The benchmark: the library against the reading, on the same bytes in one run. Prints a table for docs/BENCH.md.
 //!
 //! For counting instructions: `bench host` writes the host traffic, `bench packets` prints how many packets it has,
-//! `bench library` gives it to the library once, and `bench nothing` does all of that but the calls.
+//! `bench library` gives it to the library once, and `bench nothing` does all of that but the calls. `bench recordings PROGRAM FOLDER`
+//! prints the table of recordings, by the call and by the program, with its files in the folder.
 
 #[allow(dead_code)]
 #[path = "../outside/reading.rs"]
@@ -15,9 +16,17 @@ use reading::{checksum, Settings, CELLS, FONT, LIST, PICTURE, PIECE_MOST, REGIST
 const ROUNDS: usize = 21;
 const TURN: f64 = 0.03;
 
-/// `naupelys.h`.
+/// `naupelys.h`, and of `naupelys_host.h` the call on recordings.
 mod library {
     extern "C" {
+        pub fn naupelys_recording_next(
+            recording: *const u8,
+            recording_size: usize,
+            place: *mut usize,
+            kind: *mut u8,
+            start: *mut usize,
+            length: *mut usize,
+        ) -> u8;
         pub fn naupelys_line(
             state: *mut u8,
             state_size: usize,
@@ -256,6 +265,196 @@ fn noise(count: usize) -> Vec<u8> {
 }
 
 // ---------------------------------------------------------------------------------------------------------------------------
+// Recordings
+// ---------------------------------------------------------------------------------------------------------------------------
+
+const RECORDING_MOST: usize = 65_535;
+
+/// A recording, and what the host sent in it without the cuts.
+struct Recording {
+    name: &'static str,
+    file: Vec<u8>,
+    line: Vec<u8>,
+}
+
+impl Recording {
+    fn new(name: &'static str) -> Recording {
+        Recording { name, file: b"PLR\x01\x00".to_vec(), line: Vec::new() }
+    }
+
+    /// An entry more, unless it does not fit.
+    fn entry(&mut self, direction: u8, bytes: &[u8]) -> bool {
+        let fits = self.file.len() + 3 + bytes.len() <= RECORDING_MOST;
+        if fits {
+            self.file.push(direction);
+            self.file.extend_from_slice(&(bytes.len() as u16).to_le_bytes());
+            self.file.extend_from_slice(bytes);
+            if direction == 0 {
+                self.line.extend_from_slice(bytes);
+            }
+        }
+        fits
+    }
+}
+
+/// The packets of a line that has no other bytes.
+fn packets_of(line: &[u8]) -> Vec<&[u8]> {
+    let mut packets = Vec::new();
+    let mut rest = line;
+    while !rest.is_empty() {
+        let (packet, more) = rest.split_at(usize::from(rest[1]) + 4);
+        packets.push(packet);
+        rest = more;
+    }
+    packets
+}
+
+/// One small packet an entry, as many as fit.
+fn small_entries() -> Recording {
+    let mut recording = Recording::new("entries of one packet of 5 bytes");
+    let mut contrast = Vec::new();
+    send(&mut contrast, 13, &[95]);
+    while recording.entry(0, &contrast) {}
+    recording
+}
+
+/// Host traffic as the emulator records it: a packet, and its reply.
+fn traffic_entries(host: &[u8]) -> Recording {
+    let mut recording = Recording::new("host traffic, an entry a packet and one its reply");
+    for packet in packets_of(host).into_iter().cycle() {
+        let mut reply = Vec::new();
+        send(&mut reply, 64 + packet[0], &[]);
+        if !recording.entry(0, packet) || !recording.entry(1, &reply) {
+            return recording;
+        }
+    }
+    recording
+}
+
+/// Host traffic in a few long entries.
+fn long_entries(host: &[u8]) -> Recording {
+    let mut recording = Recording::new("host traffic in entries of some 4,000 bytes");
+    let mut entry = Vec::new();
+    for packet in packets_of(host).into_iter().cycle() {
+        entry.extend_from_slice(packet);
+        if entry.len() > 4_000 && !recording.entry(0, &std::mem::take(&mut entry)) {
+            return recording;
+        }
+    }
+    recording
+}
+
+/// A plain scan: every byte judged in turn, and a packet's passed over. Gives how many packets.
+fn plain_scan(line: &[u8]) -> usize {
+    let (mut packets, mut at) = (0, 0);
+    while at + 2 <= line.len() {
+        let n = usize::from(line[at + 1]);
+        let end = at + n + 4;
+        if n > 22 {
+            at += 1;
+        } else if end > line.len() {
+            break;
+        } else if checksum(&line[at..end - 2]).to_le_bytes() == line[end - 2..end] {
+            packets += 1;
+            at = end;
+        } else {
+            at += 1;
+        }
+    }
+    packets
+}
+
+/// The call until there is no more. Gives how many packets.
+fn asked(file: &[u8]) -> usize {
+    let (mut packets, mut place, mut kind, mut start, mut length) = (0, 0, 0, 0, 0);
+    loop {
+        // Safety: every pointer points to as many bytes as its length says, or to a number.
+        let number = unsafe {
+            library::naupelys_recording_next(file.as_ptr(), file.len(), &mut place, &mut kind, &mut start, &mut length)
+        };
+        match number {
+            3 => packets += 1,
+            1 => return packets,
+            _ => panic!("the recording is refused with {number}"),
+        }
+    }
+}
+
+/// Seconds that ended children have had a core. (POSIX; the number and the sizes are Linux's.)
+fn seconds_of_children() -> f64 {
+    #[repr(C)]
+    struct Usage {
+        times: [[i64; 2]; 2],
+        rest: [i64; 14],
+    }
+    extern "C" {
+        fn getrusage(who: i32, usage: *mut Usage) -> i32;
+    }
+    const CHILDREN: i32 = -1;
+    let mut usage = Usage { times: [[0; 2]; 2], rest: [0; 14] };
+    // Safety: the pointer is to a Usage.
+    let failed = unsafe { getrusage(CHILDREN, &mut usage) };
+    assert_eq!(failed, 0, "no usage");
+    usage.times.iter().map(|[seconds, microseconds]| *seconds as f64 + *microseconds as f64 * 1e-6).sum()
+}
+
+/// Seconds that the program takes for a recording, and what it prints last.
+fn run_program(program: &str, path: &str) -> (f64, String) {
+    let input = std::fs::File::open(path).expect("the recording can be read");
+    let before = seconds_of_children();
+    let ran = std::process::Command::new(program).stdin(input).output().expect("the program can be run");
+    let text = String::from_utf8(ran.stdout).expect("the program prints text");
+    (seconds_of_children() - before, text.lines().last().unwrap_or_default().to_string())
+}
+
+/// Seconds for one time, from as many times as a turn needs.
+fn seconds_for(mut job: impl FnMut() -> usize, packets: usize) -> f64 {
+    let start = seconds();
+    let mut times = 0;
+    loop {
+        assert_eq!(job(), packets, "other packets");
+        times += 1;
+        let passed = seconds() - start;
+        if passed >= TURN {
+            return passed / f64::from(times);
+        }
+    }
+}
+
+fn recordings(host: &[u8], program: &str, folder: &str) {
+    println!("| recording | bytes | packets | plain scan, µs | asked until no more / scan | the program / scan |");
+    println!("| --- | ---: | ---: | ---: | ---: | ---: |");
+    let empty = format!("{folder}/empty.plr");
+    std::fs::write(&empty, &Recording::new("empty").file).expect("the folder can be written");
+    for (number, recording) in [small_entries(), traffic_entries(host), long_entries(host)].into_iter().enumerate() {
+        let path = format!("{folder}/{number}.plr");
+        std::fs::write(&path, &recording.file).expect("the folder can be written");
+        let packets = plain_scan(&recording.line);
+        let (mut scans, mut asks, mut programs) = (Vec::new(), Vec::new(), Vec::new());
+        // A turn of each, three times; the program has many more, since it is quick and its start is not its work.
+        for _ in 0..3 {
+            scans.push(seconds_for(|| plain_scan(&recording.line), packets));
+            asks.push(seconds_for(|| asked(&recording.file), packets));
+        }
+        for _ in 0..10 * ROUNDS {
+            let (time, last) = run_program(program, &path);
+            assert!(last.starts_with(&format!("end packets {packets} ")), "the program prints {last}");
+            programs.push(time - run_program(program, &empty).0);
+        }
+        let (scan, ask, program) = (median(scans), median(asks), median(programs));
+        println!(
+            "| {} | {} | {} | {:.0} | {} | {:.1} |",
+            recording.name,
+            with_commas(recording.file.len()),
+            with_commas(packets),
+            scan * 1e6,
+            rounded(ask / scan),
+            program / scan
+        );
+    }
+}
+
+// ---------------------------------------------------------------------------------------------------------------------------
 // The table
 // ---------------------------------------------------------------------------------------------------------------------------
 
@@ -309,7 +508,11 @@ fn main() {
         }
         Some("library") => assert!(drive(by_library, &mut Desk::at_power_on(), &host, PIECE_MOST) > 0),
         Some("nothing") => assert!(drive(|_, _| reading::WAITING, &mut Desk::at_power_on(), &host, PIECE_MOST) > 0),
-        Some(word) => panic!("{word}: host, packets, library or nothing"),
+        Some("recordings") => {
+            let arguments: Vec<String> = std::env::args().skip(2).collect();
+            recordings(&host, &arguments[0], &arguments[1]);
+        }
+        Some(word) => panic!("{word}: host, packets, library, nothing or recordings"),
     }
 }
 

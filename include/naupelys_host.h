@@ -189,7 +189,13 @@ uint8_t naupelys_compose_read_pin(uint8_t pin,
  *
  * Any other place is taken too: one before an entry's bytes, inside its header or further ahead, means the entry's first byte; one inside
  * its bytes means that byte; from one behind the recording on there is no more. Each call checks the whole recording before it looks,
- * some steps for each entry, and hands back nothing of one that is refused. */
+ * some steps for each entry, and hands back nothing of one that is refused.
+ *
+ *     size_t place = 0, start, length;
+ *     uint8_t type;
+ *     while (naupelys_recording_next(file, size, &place, &type, &start, &length) == NAUPELYS_HOST_DONE)
+ *         host_sent(type, file + start, length);
+ */
 uint8_t naupelys_recording_next(const uint8_t *recording, size_t recording_size,
                                 size_t *place, uint8_t *type, size_t *start, size_t *length);
 
