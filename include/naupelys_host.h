@@ -182,14 +182,15 @@ uint8_t naupelys_compose_read_pin(uint8_t pin,
  * packet of any type is one. What the panel sent is passed over.
  */
 
-/* The next host packet of a recording from *place on. Begin with 0; each packet that is found leaves *place where the next is asked for.
+/* The next host packet of a recording from *place on. Begin with 0; each packet that is found leaves *place at the byte behind it, from
+ * where the next is asked for.
  *
  * With 3, *type is the packet's type, its *length data bytes are recording[*start] and those behind it, and its type and length stand
  * in the two bytes before them. With 1 and with 22 to 26 the four numbers are as they came.
  *
- * Any other place is taken too: one before an entry's bytes, inside its header or further ahead, means the entry's first byte; one inside
- * its bytes means that byte; from one behind the recording on there is no more. Each call checks the whole recording before it looks,
- * some steps for each entry, and hands back nothing of one that is refused.
+ * Any other place is taken too: one before an entry's bytes, inside its header or further ahead, means the entry's first byte; from one
+ * inside its bytes the look begins there, with nothing held; from one behind the recording on there is no more. Each call checks the
+ * whole recording before it looks, some steps for each entry, and hands back nothing of one that is refused.
  *
  *     size_t place = 0, start, length;
  *     uint8_t type;

@@ -12,6 +12,8 @@ mod host_reading;
 #[allow(dead_code)]
 #[path = "library.rs"]
 mod library;
+#[path = "panel.rs"]
+mod panel;
 #[allow(dead_code)]
 #[path = "reading.rs"]
 mod reading;
@@ -24,8 +26,9 @@ mod traffic;
 
 use common::{expect, hex, print_difference, wrong_size, Buffer, Header};
 use host_reading::{BAD_BUFFER, ERROR, PACKET, READING, REPLY, REPORT, UNREADABLE};
-use reading::{DONE, LIST, PICTURE, REFUSED, REGISTER, SAID, STATE};
-use states::{possible_keys, program_font, random_state, FLASH, GLYPHS, KEYS, LIVE, PINS};
+use panel::Panel;
+use reading::{DONE, REFUSED, SAID};
+use states::{possible_keys, random_state, FLASH, GLYPHS, KEYS, LIVE, PINS};
 use std::collections::{BTreeMap, BTreeSet};
 use std::fmt::Debug;
 use std::io::Write;
@@ -211,129 +214,8 @@ impl Read {
 }
 
 // ---------------------------------------------------------------------------------------------------------------------------
-// The library's panel
+// What the panel means and writes
 // ---------------------------------------------------------------------------------------------------------------------------
-
-/// The panel, with all that is lent to it. Its own calls are compared in the test of the panel.
-struct Panel {
-    at_power_on: Vec<u8>,
-    state: Vec<u8>,
-    picture: Vec<u8>,
-    font: Vec<u8>,
-    list: Vec<u8>,
-    reply: Vec<u8>,
-    register: Vec<u8>,
-    said: [u8; SAID],
-    calls: u64,
-}
-
-impl Panel {
-    fn new() -> Panel {
-        let mut panel = Panel {
-            at_power_on: Vec::new(),
-            state: vec![0; STATE],
-            picture: vec![0; PICTURE],
-            font: program_font(),
-            list: vec![0; LIST],
-            reply: vec![0; reading::REPLY],
-            register: vec![0; REGISTER],
-            said: [0; SAID],
-            calls: 1,
-        };
-        let (state, picture, font) = (&mut panel.state, &mut panel.picture, &panel.font);
-        // Safety: every pointer points to as many bytes as its length says, and no two buffers overlap.
-        let number = unsafe {
-            library::naupelys_power_on(
-                state.as_mut_ptr(),
-                state.len(),
-                picture.as_mut_ptr(),
-                picture.len(),
-                font.as_ptr(),
-                font.len(),
-                panel.said.as_mut_ptr(),
-            )
-        };
-        expect("power-on", number, DONE);
-        panel.at_power_on.clone_from(&panel.state);
-        panel
-    }
-
-    /// All as at power-on, with an empty register.
-    fn power_on(&mut self) {
-        self.state.copy_from_slice(&self.at_power_on);
-        self.register.fill(0);
-        self.said.fill(0);
-    }
-
-    /// Another state in its ranges, with nothing held.
-    fn in_state(&mut self, state: &[u8]) {
-        self.state.copy_from_slice(state);
-        self.state[0] = 0;
-    }
-
-    fn line(&mut self, piece: &[u8]) {
-        self.calls += 1;
-        // Safety: as above.
-        unsafe {
-            library::naupelys_line(
-                self.state.as_mut_ptr(),
-                self.state.len(),
-                piece.as_ptr(),
-                piece.len(),
-                self.picture.as_mut_ptr(),
-                self.picture.len(),
-                self.font.as_ptr(),
-                self.font.len(),
-                self.list.as_mut_ptr(),
-                self.list.len(),
-                self.reply.as_mut_ptr(),
-                self.reply.len(),
-                self.register.as_mut_ptr(),
-                self.register.len(),
-                self.said.as_mut_ptr(),
-            );
-        }
-    }
-
-    fn key(&mut self, key: u8, down: bool) {
-        self.calls += 1;
-        let (state, reply) = (&mut self.state, &mut self.reply);
-        // Safety: as above.
-        unsafe {
-            library::naupelys_key(
-                state.as_mut_ptr(),
-                state.len(),
-                u32::from(key),
-                down,
-                reply.as_mut_ptr(),
-                reply.len(),
-                self.said.as_mut_ptr(),
-            );
-        }
-    }
-
-    fn pin(&mut self, pin: u8, high: bool) {
-        self.calls += 1;
-        // Safety: as above.
-        unsafe {
-            library::naupelys_pin(self.state.as_mut_ptr(), self.state.len(), u32::from(pin), high, self.said.as_mut_ptr());
-        }
-    }
-
-    /// Number, command, reason and place of the last call.
-    fn answer(&self) -> [u8; 4] {
-        [self.said[0], self.said[1], self.said[2], self.said[3]]
-    }
-
-    /// Bytes taken, dropped and checked in the last call, and how many are held now. All of them are below 256 here.
-    fn counts(&self) -> [u8; 4] {
-        [self.said[4], self.said[6], self.said[8], self.state[0]]
-    }
-
-    fn reply(&self) -> &[u8] {
-        &self.reply[..usize::from(self.said[12])]
-    }
-}
 
 /// Where the bytes that command 10 reads stand in the state.
 fn place_of(address: u8) -> usize {
@@ -585,7 +467,7 @@ impl Test {
         let values = meant(&self.panel.state, composed.command, data);
         self.panel.line(sent);
         self.must("what the panel answers", sent, self.panel.answer(), [DONE, composed.command, 0, 0]);
-        let n = data.len() as u8;
+        let n = data.len();
         self.must("taken, dropped, checked, held", sent, self.panel.counts(), [n + 4, 0, n + 2, 0]);
         self.read_back(Read::done(REPLY, composed.command, &values));
     }
@@ -1038,9 +920,16 @@ fn header_names(test: &mut Test) -> u64 {
         ("SAID", SAID),
         ("READING", READING),
         ("DATA_MOST", DATA_MOST),
+        ("RECORDING_MOST", 65_535),
+        ("NO_MORE", 1),
         ("DONE", 3),
         ("REFUSED", 4),
         ("BAD_BUFFER", 21),
+        ("TOO_LONG", 22),
+        ("NO_MARK", 23),
+        ("NO_VERSION", 24),
+        ("BAD_DIRECTION", 25),
+        ("CUT_SHORT", 26),
         ("UNREADABLE", 29),
         ("NONE", 0),
         ("REPLY", 1),

@@ -97,4 +97,12 @@ extern "C" {
         said: *mut u8,
     ) -> u8;
     pub fn naupelys_compose_read_pin(pin: u8, packet: *mut u8, packet_size: usize, said: *mut u8) -> u8;
+    pub fn naupelys_recording_next(
+        recording: *const u8,
+        recording_size: usize,
+        place: *mut usize,
+        kind: *mut u8,
+        start: *mut usize,
+        length: *mut usize,
+    ) -> u8;
 }

@@ -3,18 +3,33 @@
 //! `programs input` writes a long input for the line program, `programs line < INPUT` prints what the line program has to print
 //! of it. `programs host` writes what a host sends to the emulator, `programs glass GLASS REPLIES < HOST` looks at what the
 //! emulator drew and replied.
+//!
+//! `programs recordings FOLDER` writes recordings into a folder, `programs recording < RECORDING` prints what the recording
+//! program has to print of one, and on standard error how the line there has to end. `programs noise BYTES` writes what comes
+//! from a host over a bad line, `programs slowly < HOST` writes it byte by byte. `programs recorded RECORDING REPLIES < HOST`
+//! looks at the emulator's recording of its line, `programs full RECORDING REPLIES < HOST` at one that had no room for all.
 
 #[allow(dead_code)]
 #[path = "reading.rs"]
 mod reading;
 #[allow(dead_code)]
+#[path = "recorded.rs"]
+mod recorded;
+#[path = "recording_reading.rs"]
+mod recording_reading;
+#[allow(dead_code)]
 #[path = "traffic.rs"]
 mod traffic;
 
 use reading::{checksum, FONT, LIST, PICTURE, REGISTER, REPLY, SAID, STATE};
+use recorded::{entries_of_size, entry, recording, FROM_HOST, FROM_PANEL};
+use recording_reading::{fault, next, Entry, Packet, HOST, PANEL, RECORDING_MOST};
+use std::collections::BTreeSet;
 use std::fmt::Write as _;
 use std::io::{Read, Write};
+use std::path::Path;
 use std::process::exit;
+use std::time::Duration;
 use traffic::{packet, Rng};
 
 /// Ends the program: what was to be seen is not there.
@@ -367,6 +382,212 @@ fn check_glass(host: &[u8], glass: &str, replies: &[u8]) {
 }
 
 // ---------------------------------------------------------------------------------------------------------------------------
+// The recording program
+// ---------------------------------------------------------------------------------------------------------------------------
+
+/// All packets of a recording that is fine.
+fn packets_of(recording: &[u8]) -> Vec<Packet> {
+    let mut place = 0;
+    let step = || {
+        let packet = next(recording, place).ok()?;
+        place = packet.next;
+        Some(packet)
+    };
+    std::iter::from_fn(step).collect()
+}
+
+/// What the recording program prints, and how its line on standard error ends, if there is one.
+fn recording_program(recording: &[u8]) -> (String, String) {
+    let entries = match recording_reading::entries(recording) {
+        Ok(entries) => entries,
+        Err((number, byte)) => return (format!("refused {number}\n"), format!("at byte {byte}\n")),
+    };
+    let mut text = String::from("packet entry offset type length data\n");
+    let packets = packets_of(recording);
+    for (number, packet) in (1..).zip(&packets) {
+        let Packet { kind, start, length, .. } = packet;
+        let offset = start - 2;
+        let entry = 1 + entries.iter().take_while(|entry| entry.end <= offset).count();
+        let data = hexadecimal(&recording[*start..start + length]);
+        writeln!(text, "{number} {entry} {offset} {kind} {length} {data}").expect("a string has room");
+    }
+    let (packets, entries, bytes) = (packets.len(), entries.len(), recording.len());
+    writeln!(text, "end packets {packets} entries {entries} bytes {bytes}").expect("a string has room");
+    (text, String::new())
+}
+
+fn hexadecimal(data: &[u8]) -> String {
+    if data.is_empty() {
+        return "-".into();
+    }
+    data.iter().map(|byte| format!("{byte:02x}")).collect()
+}
+
+/// Recordings that are fine, the longest among them, and one with each fault and more, each with its name.
+fn recordings() -> Vec<(&'static str, Vec<u8>)> {
+    let mut rng = Rng(635);
+    let ping = packet(0, &[]);
+    let longest = recording(&entries_of_size(&mut rng, RECORDING_MOST));
+    let long_entry = traffic::traffic(&mut rng, 65_527)[..65_527].to_vec();
+    let tiny = recording(&vec![(FROM_HOST, ping.clone()); (RECORDING_MOST - 5) / 7]);
+    let text = recording(&[(FROM_HOST, packet(31, b"\x00\x03ABC")), (FROM_PANEL, packet(95, &[]))]);
+    let with = |front: &[u8], behind: &[u8]| [front, behind].concat();
+    let another_mark = |recording: &[u8]| with(b"PLS", &recording[3..]);
+    let nearly_longest = recording(&entries_of_size(&mut rng, RECORDING_MOST - 1));
+    vec![
+        ("text", text.clone()),
+        ("longest", longest.clone()),
+        ("tiny-entries", tiny.clone()),
+        ("empty-entries", recording(&vec![(FROM_HOST, Vec::new()); (RECORDING_MOST - 5) / 3])),
+        ("long-entry", recording(&[(FROM_HOST, long_entry)])),
+        ("panel-alone", recording(&[(FROM_PANEL, ping.clone()), (FROM_PANEL, ping)])),
+        ("no-entries", recording(&[])),
+        ("too-long", with(&nearly_longest, &[1, 0])),
+        ("too-long-and-fine", with(&tiny, &entry(FROM_PANEL, &[0; 100]))),
+        ("too-long-without-mark", another_mark(&with(&longest, &[0]))),
+        ("much-too-long", with(&longest, &longest)),
+        ("no-bytes", Vec::new()),
+        ("another-mark", another_mark(&text)),
+        ("mark-alone", b"PLR".to_vec()),
+        ("version-257", with(b"PLR\x01\x01", &text[5..])),
+        ("bad-direction", with(&recording(&[]), &[2, 0, 0])),
+        ("bad-direction-behind", with(&nearly_longest, &[2])),
+        ("cut-short", text[..12].to_vec()),
+        ("cut-short-behind", with(&nearly_longest, &[0])),
+    ]
+}
+
+/// Fails where the recordings would let a wrong program pass.
+fn check_recordings(recordings: &[(&str, Vec<u8>)]) {
+    let faults: Vec<(u8, usize)> = recordings.iter().filter_map(|(_, bytes)| fault(bytes)).collect();
+    let numbers: BTreeSet<u8> = faults.iter().map(|(number, _)| *number).collect();
+    demand(numbers == (22..=26).collect(), "the recordings have not every fault");
+    demand(faults.iter().any(|&(number, byte)| number > 24 && byte == RECORDING_MOST - 1), "no fault is far behind");
+
+    let fine = recordings.iter().filter(|(_, bytes)| fault(bytes).is_none());
+    let packets: Vec<Packet> = fine.flat_map(|(_, bytes)| packets_of(bytes)).collect();
+    let lengths: BTreeSet<usize> = packets.iter().map(|packet| packet.length).collect();
+    demand(lengths == (0..=22).collect(), "the recordings have not packets of every length");
+    demand(packets.iter().filter(|packet| packet.kind > 63).count() > 100, "the recordings have few strays");
+    demand(packets.iter().any(|packet| packet.next > RECORDING_MOST - 7), "no packet is far behind");
+}
+
+// ---------------------------------------------------------------------------------------------------------------------------
+// The emulator's recording
+// ---------------------------------------------------------------------------------------------------------------------------
+
+/// A packet on the line, without regard to any recording: its bytes and the reply.
+struct Heard {
+    begin: usize,
+    end: usize,
+    reply: Vec<u8>,
+    /// How many bytes were held behind it when it was found.
+    behind: usize,
+}
+
+fn heard_on(line: &[u8]) -> Vec<Heard> {
+    let (mut taken, mut left) = (0, 0);
+    let mut heard = Vec::new();
+    Desk::at_power_on(program_font()).hear(line, CUT, |desk, event| {
+        let begin = left + event.dropped;
+        taken += event.taken;
+        left = taken - desk.held();
+        if event.number != reading::WAITING {
+            heard.push(Heard { begin, end: left, reply: event.reply.clone(), behind: desk.held() });
+        }
+    });
+    heard
+}
+
+/// What comes from a host over a bad line. Before many packets stand bytes that could begin a longer one, so that packets are
+/// found with others held behind them. At the end is the front of a packet that does not come.
+fn noise(at_least: usize) -> Vec<u8> {
+    let mut rng = Rng(635);
+    let mut bytes = Vec::new();
+    while bytes.len() < at_least {
+        if rng.one_in(3) {
+            bytes.extend([rng.pick(&[0, 0, 31, 255]), rng.pick(&[22, 22, 17, 5])]);
+        }
+        bytes.extend(traffic::stretch(&mut rng));
+    }
+    bytes.extend(&packet(2, &[9; 16])[..7]);
+    bytes
+}
+
+/// Fails where the noise would let a wrong emulator pass.
+fn check_noise(line: &[u8]) {
+    let heard = heard_on(line);
+    let found: usize = heard.iter().map(|packet| packet.end - packet.begin).sum();
+    demand(heard.iter().filter(|packet| packet.behind > 4).count() > 4, "few packets have others held behind them");
+    demand(heard.iter().any(|packet| packet.reply.is_empty()), "the noise has no stray");
+    demand(heard.iter().any(|packet| packet.reply.len() > 4), "the noise asks for nothing");
+    demand(found + 100 < line.len(), "little is dropped");
+    demand(heard.last().is_some_and(|packet| packet.end < line.len()), "nothing is held at the end");
+}
+
+/// The bytes of all entries of a direction.
+fn joined(recording: &[u8], entries: &[Entry], direction: u8) -> Vec<u8> {
+    let of_direction = entries.iter().filter(|entry| entry.direction == direction);
+    of_direction.flat_map(|entry| &recording[entry.from..entry.end]).copied().collect()
+}
+
+/// Looks at what the emulator replied to a host, and at its recording: all of the line, or as much as there is room for.
+fn check_recorded(host: &[u8], recording: &[u8], replies: &[u8], whole: bool) {
+    let heard = heard_on(host);
+    let expected: Vec<u8> = heard.iter().flat_map(|packet| &packet.reply).copied().collect();
+    demand(replies == expected, "the emulator's replies are others");
+
+    let entries = recording_reading::entries(recording)
+        .unwrap_or_else(|(number, byte)| fail(&format!("the recording is refused with {number}, at byte {byte}")));
+    demand(entries.iter().all(|entry| entry.from < entry.end), "an entry has no bytes");
+    let (sent, replied) = (joined(recording, &entries, HOST), joined(recording, &entries, PANEL));
+    if whole {
+        demand(sent == host, "what the host sent is not what the recording has");
+        demand(replied == replies, "what the panel replied is not what the recording has");
+    } else {
+        demand(host.starts_with(&sent), "what the host sent does not begin as in the recording");
+        demand(replies.starts_with(&replied), "what the panel replied does not begin as in the recording");
+        // What comes next is at most a read's bytes.
+        demand(recording.len() + 3 + READ > RECORDING_MOST, "the recording ends where it had room");
+    }
+    check_packets(&heard, recording, &entries, sent.len());
+}
+
+/// A recording of so many host bytes has the packets of the line, none of them lost where entries are cut; and what the panel
+/// replied stands behind what it replies to.
+fn check_packets(heard: &[Heard], recording: &[u8], entries: &[Entry], sent: usize) {
+    let packets = packets_of(recording);
+    let place_on_line = |packet: &Packet| {
+        let begin = before_in_host_entries(entries, packet.start - 2);
+        (begin, begin + packet.length + 4)
+    };
+    let recorded: Vec<(usize, usize)> = packets.iter().map(place_on_line).collect();
+    let on_line = heard.iter().map(|packet| (packet.begin, packet.end)).filter(|&(_, end)| end <= sent);
+    let on_line: Vec<(usize, usize)> = on_line.collect();
+    let same = recorded.iter().zip(&on_line).take_while(|(recorded, on_line)| recorded == on_line).count();
+    demand(recorded == on_line, &format!("the recording has the line's first {same} packets, and then not the next"));
+
+    let (mut found, mut due) = (0, 0);
+    for entry in entries {
+        if entry.direction == PANEL {
+            let length = entry.end - entry.from;
+            demand(length <= due, "what the panel replied stands before what it replies to");
+            due -= length;
+        }
+        while packets.get(found).is_some_and(|packet| packet.next <= entry.end) {
+            due += heard[found].reply.len();
+            found += 1;
+        }
+    }
+}
+
+/// How many bytes of host entries stand before a place inside one of them.
+fn before_in_host_entries(entries: &[Entry], place: usize) -> usize {
+    let from_host = entries.iter().filter(|entry| entry.direction == HOST && entry.from <= place);
+    from_host.map(|entry| entry.end.min(place) - entry.from).sum()
+}
+
+// ---------------------------------------------------------------------------------------------------------------------------
 
 fn standard_input() -> Vec<u8> {
     let mut bytes = Vec::new();
@@ -376,6 +597,10 @@ fn standard_input() -> Vec<u8> {
 
 fn write(bytes: &[u8]) {
     std::io::stdout().write_all(bytes).expect("standard output can be written");
+}
+
+fn file(name: &str) -> Vec<u8> {
+    std::fs::read(name).unwrap_or_else(|error| fail(&format!("{name}: {error}")))
 }
 
 fn main() {
@@ -390,9 +615,34 @@ fn main() {
         ["host"] => write(&host()),
         ["glass", glass, replies] => {
             let drawn = std::fs::read_to_string(glass).expect("the glass can be read");
-            let sent = std::fs::read(replies).expect("the replies can be read");
-            check_glass(&standard_input(), &drawn, &sent);
+            check_glass(&standard_input(), &drawn, &file(replies));
         }
-        _ => fail("input, line, host, or glass GLASS REPLIES"),
+        ["recordings", folder] => {
+            let recordings = recordings();
+            check_recordings(&recordings);
+            for (name, bytes) in &recordings {
+                std::fs::write(Path::new(folder).join(name), bytes).expect("the folder can be written");
+            }
+        }
+        ["recording"] => {
+            let (text, ending) = recording_program(&standard_input());
+            write(text.as_bytes());
+            eprint!("{ending}");
+        }
+        ["noise", bytes] => {
+            let line = noise(bytes.parse().unwrap_or_else(|_| fail("noise: how many bytes")));
+            check_noise(&line);
+            write(&line);
+        }
+        ["slowly"] => {
+            for byte in standard_input() {
+                write(&[byte]);
+                std::io::stdout().flush().expect("standard output can be written");
+                std::thread::sleep(Duration::from_millis(1));
+            }
+        }
+        ["recorded", recording, replies] => check_recorded(&standard_input(), &file(recording), &file(replies), true),
+        ["full", recording, replies] => check_recorded(&standard_input(), &file(recording), &file(replies), false),
+        _ => fail("an unknown word, or too few"),
     }
 }

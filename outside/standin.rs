@@ -7,6 +7,9 @@ mod host_reading;
 #[allow(dead_code)]
 #[path = "changed.rs"]
 mod reading;
+#[allow(dead_code)]
+#[path = "changed_recording.rs"]
+mod recording_reading;
 
 use std::slice::{from_raw_parts, from_raw_parts_mut};
 
@@ -275,4 +278,27 @@ pub unsafe extern "C" fn naupelys_compose_pin_config(
 #[no_mangle]
 pub unsafe extern "C" fn naupelys_compose_read_pin(pin: u8, packet: *mut u8, packet_size: usize, said: *mut u8) -> u8 {
     say(said, host_reading::compose_read_pin(pin, lent(packet, packet_size)))
+}
+
+/// # Safety
+/// As `naupelys_host.h` says.
+#[no_mangle]
+pub unsafe extern "C" fn naupelys_recording_next(
+    recording: *const u8,
+    recording_size: usize,
+    place: *mut usize,
+    kind: *mut u8,
+    start: *mut usize,
+    length: *mut usize,
+) -> u8 {
+    match recording_reading::next(given(recording, recording_size), *place) {
+        Ok(packet) => {
+            *place = packet.next;
+            *kind = packet.kind;
+            *start = packet.start;
+            *length = packet.length;
+            reading::DONE
+        }
+        Err(number) => number,
+    }
 }
