@@ -13,16 +13,6 @@ use Rattle.packets.proofs.Judgements as seen
 use Rattle.packets.proofs.Judgements.{Seen, see}
 use Rattle.recordings.specs.Next.{beforeAt, before}
 
--- a judgement other than a wait is of two bytes at least
-judged-some : (w : List ℕ) (j : Judgement) → judge w ≡ j → (j ≡ Wait → ⊥) → 2 ≤ length w
-judged-some w j e n = go j (see w j e) n
-  where
-    go : (j : Judgement) → Seen w j → (j ≡ Wait → ⊥) → 2 ≤ length w
-    go Wait s n = absurd (n refl)
-    go LongLength (seen.long a b) n = a
-    go WrongChecksum (seen.wrong a b f) n = omega arith
-    go Packet (seen.whole a b f) n = omega arith
-
 module _ (w : List ℕ) where
   pub before-wait : judge w ≡ Wait → before w ≡ length w
   unfolding before beforeAt
@@ -40,25 +30,26 @@ module _ (w : List ℕ) where
       at [] e = refl
       at (b ∷ v) e = rw e
 
+-- the byte at i is dropped: the packet stands one further on than behind it
 module _ (w : List ℕ) (i : ℕ) where
-  pub drop-long : judge (drop i w) ≡ LongLength → (i + 2 ≤ length w) × (before (drop i w) ≡ 1 + before (drop (i + 1) w))
-  unfolding before beforeAt
-  drop-long e =
-      let n : 2 ≤ length (drop i w) = go (see (drop i w) LongLength e) in
+  dropped-by : (j : Judgement) → judge (drop i w) ≡ j → 2 ≤ length (drop i w) → ((n m : ℕ) → beforeAt j n m ≡ m)
+      → (i + 2 ≤ length w) × (before (drop i w) ≡ 1 + before (drop (i + 1) w))
+  unfolding before
+  dropped-by j e two d =
       let h : i < length w = omega (arith, length-drop i w) in
-      let f : judge (drop i w) ≡ LongLength = e in
-      (omega (arith, length-drop i w), rw (add-one, drop-cons w i 0 h) (rw (rw (drop-cons w i 0 h) at f) (omega arith)))
+      let f = rw (drop-cons w i 0 h) at e in
+      (omega (arith, length-drop i w), rw (add-one, drop-cons w i 0 h, f, d) (omega arith))
+
+  pub drop-long : judge (drop i w) ≡ LongLength → (i + 2 ≤ length w) × (before (drop i w) ≡ 1 + before (drop (i + 1) w))
+  unfolding beforeAt
+  drop-long e = dropped-by LongLength e (go (see (drop i w) LongLength e)) (λ n m. refl)
     where
       go : Seen (drop i w) LongLength → 2 ≤ length (drop i w)
       go (seen.long a b) = a
 
   pub drop-wrong : judge (drop i w) ≡ WrongChecksum → (i + 2 ≤ length w) × (before (drop i w) ≡ 1 + before (drop (i + 1) w))
-  unfolding before beforeAt
-  drop-wrong e =
-      let n : 2 ≤ length (drop i w) = go (see (drop i w) WrongChecksum e) in
-      let h : i < length w = omega (arith, length-drop i w) in
-      let f : judge (drop i w) ≡ WrongChecksum = e in
-      (omega (arith, length-drop i w), rw (add-one, drop-cons w i 0 h) (rw (rw (drop-cons w i 0 h) at f) (omega arith)))
+  unfolding beforeAt
+  drop-wrong e = dropped-by WrongChecksum e (go (see (drop i w) WrongChecksum e)) (λ n m. refl)
     where
       go : Seen (drop i w) WrongChecksum → 2 ≤ length (drop i w)
       go (seen.wrong a b f) = omega arith

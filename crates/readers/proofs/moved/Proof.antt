@@ -1,5 +1,5 @@
--- `readers::moved` meets its contract: a walk of its MIR, by hand. A `Reader` is made anew of the slice that the one passed holds, and another place.
--- Nothing need be had of the parameters at exit: what the reader owns, with the facts of the new place put in, is what the result owns.
+-- `moved` meets its promise: a walk of its MIR. The result is made of the reader's slice and of the place; it owns what the reader owned,
+-- with the facts of this place for those of the old one.
 use mathlib.Core.Path.{refl}
 use Prim.Native.Nat.{ℕ, _<_, _^_}
 use mathlib.Core.List.{[], _∷_}

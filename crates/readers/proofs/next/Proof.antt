@@ -1,5 +1,5 @@
--- `readers::next` meets its contract: a walk of its MIR, by hand. `find` is called, then `part` at the start and the length that it found, and the result is made of the other numbers and that part. All that the proof knows of the two is that each meets its contract.
--- A `&[u8]` is Copy: what the recording owns is had twice, once for each call. What the part owns goes into the result.
+-- `next` meets its promise: a walk of its MIR. The slice is lent to `find`, and again to `part` at what `find` found; of both only the
+-- promises are known. The result is made of their results and owns what the part owns.
 use mathlib.Core.Path.{_≡_, refl, ap, subst}
 use Prim.Native.Nat.{ℕ, _<_, _^_}
 use mathlib.Core.List.{List, [], _∷_}

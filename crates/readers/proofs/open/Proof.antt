@@ -1,5 +1,4 @@
--- `readers::open` meets its contract: a walk of its MIR, by hand. A `Reader` is made of the slice passed and 0, in the result's local.
--- Nothing need be had of the parameter at exit, since it is a `&`: what the slice owns goes into the result.
+-- `open` meets its promise: a walk of its MIR. The result is made of the lent slice and 0, and owns what the slice owns.
 use mathlib.Core.Path.{refl}
 use Prim.Native.Nat.{ℕ}
 use mathlib.Core.List.{List, [], _∷_}

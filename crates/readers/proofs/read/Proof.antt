@@ -1,5 +1,5 @@
--- `readers::read` meets its contract: a walk of its MIR, by hand. The reader is taken apart, and `next` is called on the recording and the place. Its result is the function's.
--- All that the proof knows of `next` is that it meets its contract. Nothing need be had of the reader at exit: it holds a `&`, and a number.
+-- `read` meets its promise: a walk of its MIR. `next`, of which only the promise is known, is called on the reader's two parts, and what it
+-- returns is the result.
 use mathlib.Core.Path.{_≡_, refl}
 use Prim.Native.Nat.{ℕ, _<_, _^_}
 use mathlib.Core.List.{List, [], _∷_}
