@@ -1,15 +1,11 @@
 -- What holds of reading over and above the functions' own promises.
-use mathlib.Core.Path.{_≡_, sym, _∙_, ap}
+use mathlib.Core.Path.{_≡_, sym, _∙_}
 use mathlib.Core.List.{List}
-use Prim.Native.Nat.{ℕ, _+_}
+use Prim.Native.Nat.{ℕ}
 use native.Mathlib.Omega.{arith}
-use lib.ListN.{getD}
 use denote.Ref.{RefT, ptr, now}
 use Rattle.lists.specs.Promise.{Determined}
-use Rattle.recordings.specs.declared.Found.{Found}
-use Rattle.recordings.specs.Next.{nextPacket}
-use Rattle.recordings.proofs.Asked.{inside}
-use Rattle.recordings.proofs.Begins.{begins, found-fine}
+use Rattle.recordings.proofs.Begins.{stands}
 use Rattle.readers.specs.declared.Handed.{Handed}
 use Rattle.readers.specs.declared.Reader.{Reader}
 use Rattle.readers.specs.Handed.{PartOf, HandsBack, OwnPacket, SameHanded, ReadsFrom}
@@ -17,19 +13,15 @@ use Rattle.readers.specs.Handed.{PartOf, HandsBack, OwnPacket, SameHande
 -- "it hands back the data bytes as a part of the recording itself"
 pub part-of-the-recording : (recording : RefT (List ℕ)) (place : ℕ) (h : Handed) → HandsBack recording place h → h .number ≡ 3 → OwnPacket recording h
 part-of-the-recording recording place h b n =
-    let r = now recording in
-    let f = nextPacket r place in
-    let m : f .number ≡ 3 = sym (b .number) ∙ n in
-    let p = begins r place m in
-    let s : f .start ≡ p .at + 2 = ap (λ (g : Found). g .start) (p .is) in
-    let l : f .length ≡ getD r (p .at + 1) 0 = ap (λ (g : Found). g .length) (p .is) in
-    let i = inside r (found-fine r place m) place m in
+    let p = stands (now recording) place (sym (b .number) ∙ n) in
+    let start = p .start in
+    let size = p .size in
     record {
       at = p .at;
-      kind = b .kind ∙ ap (λ (g : Found). g .kind) (p .is);
+      kind = b .kind ∙ p .kind;
       block = b .content .block;
       place = b .content .place ∙ omega arith;
-      bytes = b .content .bytes ∙ rw (s, l);
+      bytes = b .content .bytes ∙ rw (start, size);
       inside = omega arith;
     }
 

@@ -14,12 +14,12 @@ use Rattle.recordings.specs.Asking.{entryPackets}
 use Rattle.recordings.proofs.Asked.{packetsFrom, no-packets, entry-first}
 use Rattle.recordings.proofs.Entries.{no-fault, fault-behind, fault-none}
 use Rattle.recordings.proofs.Parts.{host, not-host}
-use Rattle.recorder.specs.Written.{Sent, byHost, byPanel, sideOf, sentBytes, entryOf, allEntries, hostPackets}
+use Rattle.recorder.specs.Written.{Sent, byHost, byPanel, directionOf, sentBytes, entryOf, allEntries, packetsSent, hostPackets}
 
-two-sides : (e : Sent) → sideOf e ≤ 1
-unfolding sideOf
-two-sides (byHost bytes) = omega arith
-two-sides (byPanel bytes) = omega arith
+two-directions : (e : Sent) → directionOf e ≤ 1
+unfolding directionOf
+two-directions (byHost bytes) = omega arith
+two-directions (byPanel bytes) = omega arith
 
 -- the entry e of fewer than 65,536 bytes, with p before it and s behind it
 module _ (p : List ℕ) (e : Sent) (s : List ℕ) (l : length (sentBytes e) < 65536) where
@@ -29,8 +29,8 @@ module _ (p : List ℕ) (e : Sent) (s : List ℕ) (l : length (sentBytes e) < 65
   at-header : (i : ℕ) → getD whole (length p + i) 0 ≡ getD (entryOf e ++ s) i 0
   at-header i = getD-append-add p (entryOf e ++ s) i 0
 
-  side-there : direction whole (length p) ≡ sideOf e
-  side-there = rw add-zero at (at-header 0)
+  direction-there : direction whole (length p) ≡ directionOf e
+  direction-there = rw add-zero at (at-header 0)
 
   size-there : low16 whole (length p + 1) ≡ length (sentBytes e)
   size-there =
@@ -56,21 +56,22 @@ module _ (p : List ℕ) (e : Sent) (s : List ℕ) (l : length (sentBytes e) < 65
 
   no-fault-there : firstFault whole (entriesOf whole (length p)) ≡ firstFault whole (entriesOf whole (length (p ++ entryOf e)))
   no-fault-there =
-      rw (sym end-there) (fault-behind whole (length p) inside (no-fault whole (length p) (omega (arith, side-there, two-sides e)) ends-inside))
+      rw (sym end-there) (fault-behind whole (length p) inside (no-fault whole (length p) (omega (arith, direction-there, two-directions e)) ends-inside))
 
   packets-there : packetsFrom whole 0 (length p) ≡ entryPackets whole 0 (length p) ++ packetsFrom whole 0 (length (p ++ entryOf e))
   packets-there = rw (sym end-there) (entry-first whole (length p) 0 inside)
 
--- the packets of one entry, and then those behind it
-in-host : (p bytes s : List ℕ) → length bytes < 65536 → entryPackets (p ++ (entryOf (byHost bytes) ++ s)) 0 (length p) ≡ line bytes .packets
-unfolding sideOf sentBytes
-in-host p bytes s l =
-    host (p ++ (entryOf (byHost bytes) ++ s)) 0 (length p) (side-there p (byHost bytes) s l) ∙ rw (rest-there p (byHost bytes) s l)
+-- the packets of one entry
+packets-in : (p : List ℕ) (e : Sent) (s : List ℕ) → length (sentBytes e) < 65536 → entryPackets (p ++ (entryOf e ++ s)) 0 (length p) ≡ packetsSent e
+unfolding directionOf sentBytes packetsSent
+packets-in p (byHost bytes) s l =
+    host (p ++ (entryOf (byHost bytes) ++ s)) 0 (length p) (direction-there p (byHost bytes) s l) ∙ rw (rest-there p (byHost bytes) s l)
+packets-in p (byPanel bytes) s l =
+    not-host (p ++ (entryOf (byPanel bytes) ++ s)) 0 (length p) (λ z. omega (arith, direction-there p (byPanel bytes) s l))
 
-in-panel : (p bytes s : List ℕ) → length bytes < 65536 → entryPackets (p ++ (entryOf (byPanel bytes) ++ s)) 0 (length p) ≡ []
-unfolding sideOf sentBytes
-in-panel p bytes s l =
-    not-host (p ++ (entryOf (byPanel bytes) ++ s)) 0 (length p) (λ z. omega (arith, side-there p (byPanel bytes) s l))
+-- one of several entries has fewer bytes than all
+one-of : (p : List ℕ) (e : Sent) (s : List ℕ) → length (p ++ (entryOf e ++ s)) ≤ 65535 → length (sentBytes e) < 65536
+one-of p e s h = omega (arith, length-append p (entryOf e ++ s), length-append (entryOf e) s)
 
 -- entries that are laid down behind p have no fault
 pub fine-behind : (p : List ℕ) (entries : List Sent) → length (p ++ allEntries entries) ≤ 65535
@@ -79,25 +80,16 @@ unfolding allEntries
 fine-behind p [] h = fault-none (p ++ []) (length p) (omega (arith, length-append p []))
 fine-behind p (e ∷ more) h =
     let s = allEntries more in
-    let a = length-append p (entryOf e ++ s) in
-    let b = length-append (entryOf e) s in
-    no-fault-there p e s (omega arith)
+    no-fault-there p e s (one-of p e s h)
     ∙ rw (sym (append-assoc p (entryOf e) s)) (fine-behind (p ++ entryOf e) more (rw append-assoc h))
 
 -- and their packets are those of the host entries
 pub read-behind : (p : List ℕ) (entries : List Sent) → length (p ++ allEntries entries) ≤ 65535
     → packetsFrom (p ++ allEntries entries) 0 (length p) ≡ hostPackets entries
-unfolding allEntries hostPackets sentBytes
+unfolding allEntries hostPackets
 read-behind p [] h = no-packets (p ++ []) (length p) 0 (omega (arith, length-append p []))
-read-behind p (byHost bytes ∷ more) h =
+read-behind p (e ∷ more) h =
     let s = allEntries more in
-    let e = byHost bytes in
-    let l : length bytes < 65536 = omega (arith, length-append p (entryOf e ++ s), length-append (entryOf e) s) in
+    let l = one-of p e s h in
     packets-there p e s l
-    ∙ rw (in-host p bytes s l, sym (append-assoc p (entryOf e) s)) (ap (λ (t : List packets.Packet). line bytes .packets ++ t) (read-behind (p ++ entryOf e) more (rw append-assoc h)))
-read-behind p (byPanel bytes ∷ more) h =
-    let s = allEntries more in
-    let e = byPanel bytes in
-    let l : length bytes < 65536 = omega (arith, length-append p (entryOf e ++ s), length-append (entryOf e) s) in
-    packets-there p e s l
-    ∙ rw (in-panel p bytes s l, sym (append-assoc p (entryOf e) s)) (read-behind (p ++ entryOf e) more (rw append-assoc h))
+    ∙ rw (packets-in p e s l, sym (append-assoc p (entryOf e) s)) (ap (λ (t : List packets.Packet). packetsSent e ++ t) (read-behind (p ++ entryOf e) more (rw append-assoc h)))

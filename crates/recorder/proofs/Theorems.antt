@@ -13,7 +13,7 @@ use Rattle.recordings.specs.Recording.{marked, versioned, recordingFault}
 use Rattle.recordings.specs.Asking.{AskedReader}
 use Rattle.recordings.proofs.Asked.{asks-from}
 use Rattle.recordings.proofs.Faults.{by-entries}
-use Rattle.recorder.specs.Written.{recordingStart, Sent, byHost, byPanel, allEntries, recordingOf, hostPackets, hostBytes, Closed, none, host, panel, StartsRecording, HeadsEntry, RoomBehind}
+use Rattle.recorder.specs.Written.{recordingStart, Sent, byHost, byPanel, allEntries, recordingOf, packetsSent, hostPackets, hostBytes, Closed, none, host, panel, StartsRecording, HeadsEntry, RoomBehind}
 use Rattle.recorder.proofs.Closing.{apart}
 use Rattle.recorder.proofs.Laid.{fine-behind, read-behind}
 
@@ -32,7 +32,7 @@ module _ (entries : List Sent) (fits : length (recordingOf entries) ≤ 65535) w
 -- Entries that end where nothing is held cut no packet: the packets of the whole line are theirs, and then those of what the host sends
 -- behind them.
 pub no-packet-is-cut : {entries : List Sent} (behind : List ℕ) → Closed entries → line (hostBytes entries ++ behind) .packets ≡ hostPackets entries ++ line behind .packets
-unfolding hostBytes hostPackets
+unfolding hostBytes hostPackets packetsSent
 no-packet-is-cut behind none = refl
 no-packet-is-cut behind (host {bytes} {more} h c) =
     rw (append-assoc bytes (hostBytes more) behind) (apart 0 bytes (hostBytes more ++ behind) (omega arith) h ∙ rw (no-packet-is-cut behind c, append-assoc))

@@ -13,16 +13,16 @@ recordingStart = 80 ∷ 76 ∷ 82 ∷ 1 ∷ 0 ∷ []
 
 -- "a direction byte (0 host, 1 panel), a 16-bit length low byte first"
 abbrev pub headerOf : ℕ → ℕ → List ℕ
-headerOf side n = side ∷ n % 256 ∷ n / 256 % 256 ∷ []
+headerOf direction n = direction ∷ n % 256 ∷ n / 256 % 256 ∷ []
 
 -- what one side sent
 pub data Sent : Type 0 where
   byHost : List ℕ → Sent
   byPanel : List ℕ → Sent
 
-unfoldable pub sideOf : Sent → ℕ
-sideOf (byHost bytes) = 0
-sideOf (byPanel bytes) = 1
+unfoldable pub directionOf : Sent → ℕ
+directionOf (byHost bytes) = 0
+directionOf (byPanel bytes) = 1
 
 unfoldable pub sentBytes : Sent → List ℕ
 sentBytes (byHost bytes) = bytes
@@ -30,7 +30,7 @@ sentBytes (byPanel bytes) = bytes
 
 -- "and that many bytes"
 abbrev pub entryOf : Sent → List ℕ
-entryOf e = headerOf (sideOf e) (length (sentBytes e)) ++ sentBytes e
+entryOf e = headerOf (directionOf e) (length (sentBytes e)) ++ sentBytes e
 
 unfoldable pub allEntries : List Sent → List ℕ
 allEntries [] = []
@@ -39,11 +39,14 @@ allEntries (e ∷ more) = entryOf e ++ allEntries more
 abbrev pub recordingOf : List Sent → List ℕ
 recordingOf entries = recordingStart ++ allEntries entries
 
--- the packets that line calls find in each host entry, from an empty hold
+-- the packets that line calls find in an entry of the host, from an empty hold; in one of the panel none is looked for
+unfoldable pub packetsSent : Sent → List packets.Packet
+packetsSent (byHost bytes) = line bytes .packets
+packetsSent (byPanel bytes) = []
+
 unfoldable pub hostPackets : List Sent → List packets.Packet
 hostPackets [] = []
-hostPackets (byHost bytes ∷ more) = line bytes .packets ++ hostPackets more
-hostPackets (byPanel bytes ∷ more) = hostPackets more
+hostPackets (e ∷ more) = packetsSent e ++ hostPackets more
 
 -- what the host sent, without the cuts
 unfoldable pub hostBytes : List Sent → List ℕ

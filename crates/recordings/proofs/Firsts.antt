@@ -30,24 +30,26 @@ module _ (w : List ℕ) where
       at [] e = refl
       at (b ∷ v) e = rw e
 
--- the byte at i is dropped: the packet stands one further on than behind it
+-- the byte at i is dropped: there is one behind it, and the packet stands one further on than from there
+abbrev pub Passed : List ℕ → ℕ → Type 0
+Passed w i = (i + 2 ≤ length w) × (before (drop i w) ≡ 1 + before (drop (i + 1) w))
+
 module _ (w : List ℕ) (i : ℕ) where
-  dropped-by : (j : Judgement) → judge (drop i w) ≡ j → 2 ≤ length (drop i w) → ((n m : ℕ) → beforeAt j n m ≡ m)
-      → (i + 2 ≤ length w) × (before (drop i w) ≡ 1 + before (drop (i + 1) w))
+  dropped-by : (j : Judgement) → judge (drop i w) ≡ j → 2 ≤ length (drop i w) → ((n m : ℕ) → beforeAt j n m ≡ m) → Passed w i
   unfolding before
   dropped-by j e two d =
       let h : i < length w = omega (arith, length-drop i w) in
       let f = rw (drop-cons w i 0 h) at e in
       (omega (arith, length-drop i w), rw (add-one, drop-cons w i 0 h, f, d) (omega arith))
 
-  pub drop-long : judge (drop i w) ≡ LongLength → (i + 2 ≤ length w) × (before (drop i w) ≡ 1 + before (drop (i + 1) w))
+  pub drop-long : judge (drop i w) ≡ LongLength → Passed w i
   unfolding beforeAt
   drop-long e = dropped-by LongLength e (go (see (drop i w) LongLength e)) (λ n m. refl)
     where
       go : Seen (drop i w) LongLength → 2 ≤ length (drop i w)
       go (seen.long a b) = a
 
-  pub drop-wrong : judge (drop i w) ≡ WrongChecksum → (i + 2 ≤ length w) × (before (drop i w) ≡ 1 + before (drop (i + 1) w))
+  pub drop-wrong : judge (drop i w) ≡ WrongChecksum → Passed w i
   unfolding beforeAt
   drop-wrong e = dropped-by WrongChecksum e (go (see (drop i w) WrongChecksum e)) (λ n m. refl)
     where

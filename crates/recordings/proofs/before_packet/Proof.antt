@@ -9,7 +9,7 @@ use Rattle.lists.proofs.Laws.{all-behind}
 use Rattle.packets.specs.declared.Judgement.{Judgement}
 use Rattle.packets.specs.Judge.{judge}
 use Rattle.recordings.specs.Next.{before}
-use Rattle.recordings.proofs.Firsts.{before-wait, before-packet, drop-long, drop-wrong}
+use Rattle.recordings.proofs.Firsts.{before-wait, before-packet, Passed, drop-long, drop-wrong}
 use Rattle.recordings.proofs.before_packet.Statement.{statement}
 use Rattle.recordings.proofs.before_packet.Tie as tie
 
@@ -30,33 +30,17 @@ returns c =
     let e = before-wait _ (judged b (l .i) (c .before .before .judge .ensures) (c .enum-told .given .1)) in
     sym (l .inv .1 ∙ omega (arith, length-drop (l .i) b))
 
-loop-less : tie.Need-loop-less Inv-loop μ-loop
-loop-less c =
-    let l = c .before .before .before .before .loop in
+long : (c : tie.After-enum-told2 Inv-loop μ-loop) → Passed (c .before .before .before .before .before .before .args .bytes .now) (c .before .before .before .before .loop .i)
+long c =
+    let i = c .before .before .before .before .loop .i in
     let b = c .before .before .before .before .before .before .args .bytes .now in
-    let d = drop-long b (l .i) (judged b (l .i) (c .before .before .judge .ensures) (c .enum-told2 .given .1)) in
-    omega arith
+    drop-long b i (judged b i (c .before .before .judge .ensures) (c .enum-told2 .given .1))
 
-loop-again : tie.Need-loop-again Inv-loop μ-loop
-loop-again c =
-    let l = c .before .before .before .before .loop in
+wrong : (c : tie.After-enum-told3 Inv-loop μ-loop) → Passed (c .before .before .before .before .before .before .args .bytes .now) (c .before .before .before .before .loop .i)
+wrong c =
+    let i = c .before .before .before .before .loop .i in
     let b = c .before .before .before .before .before .before .args .bytes .now in
-    let d = drop-long b (l .i) (judged b (l .i) (c .before .before .judge .ensures) (c .enum-told2 .given .1)) in
-    (omega arith, omega arith)
-
-loop-less-2 : tie.Need-loop-less-2 Inv-loop μ-loop
-loop-less-2 c =
-    let l = c .before .before .before .before .loop in
-    let b = c .before .before .before .before .before .before .args .bytes .now in
-    let d = drop-wrong b (l .i) (judged b (l .i) (c .before .before .judge .ensures) (c .enum-told3 .given .1)) in
-    omega arith
-
-loop-again-2 : tie.Need-loop-again-2 Inv-loop μ-loop
-loop-again-2 c =
-    let l = c .before .before .before .before .loop in
-    let b = c .before .before .before .before .before .before .args .bytes .now in
-    let d = drop-wrong b (l .i) (judged b (l .i) (c .before .before .judge .ensures) (c .enum-told3 .given .1)) in
-    (omega arith, omega arith)
+    drop-wrong b i (judged b i (c .before .before .judge .ensures) (c .enum-told3 .given .1))
 
 returns-2 : tie.Need-returns-2 Inv-loop μ-loop
 returns-2 c =
@@ -80,11 +64,11 @@ before-packet-spec =
     returns
     (λ c. search needs)
     (λ c. search needs)
-    loop-less
-    loop-again
+    (λ c. let p = long c in omega arith)
+    (λ c. let p = long c in (omega arith, omega arith))
     (λ c. search needs)
     (λ c. search needs)
-    loop-less-2
-    loop-again-2
+    (λ c. let p = wrong c in omega arith)
+    (λ c. let p = wrong c in (omega arith, omega arith))
     (λ c. search needs)
     returns-2)
