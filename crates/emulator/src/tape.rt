@@ -60,7 +60,7 @@ fn full(t: Tape) -> Tape {
 pub fn begin(name: &[u8]) -> Tape {
     let file = os::open_overwrite(name);
     if file < 0 {
-        os::fail(b"emulator: the recording cannot be written");
+        os::fail(b"emulator: the recording cannot be opened");
         return none();
     }
     let t = Tape {

@@ -45,6 +45,6 @@ pub record SameHanded (x y : Handed) : Type 0 where
   pub bytes : now (x .content) ≡ now (y .content)
   pub next : x .next ≡ y .next
 
--- what `open` and `moved` promise: the recording itself, and a place
+-- what `open` promises: the recording itself, and the place
 abbrev pub ReadsFrom : RefT (List ℕ) → ℕ → Reader → Type 0
 ReadsFrom recording place r = (r .recording ≡ recording) × (r .place ≡ place)

@@ -40,14 +40,11 @@ pub fn next<'a>(recording: &'a [u8], place: usize) -> Handed<'a>
     }
 }
 
-// The small reader, at the recording's start.
-pub fn open<'a>(recording: &'a [u8]) -> Reader<'a>
-    ensures { λ r. ⌜ ReadsFrom (recording .entry) 0 r ⌝ }
+// The small reader, at a place: 0, or behind a packet that it handed back that packet's `next`.
+pub fn open<'a>(recording: &'a [u8], place: usize) -> Reader<'a>
+    ensures { λ r. ⌜ ReadsFrom (recording .entry) place r ⌝ }
 {
-    Reader {
-        recording,
-        place: 0,
-    }
+    Reader { recording, place }
 }
 
 // The next host packet from the reader's place on.
@@ -55,14 +52,4 @@ pub fn read<'a>(reader: Reader<'a>) -> Handed<'a>
     ensures { λ r. ⌜ HandsBack (reader .entry .recording) (reader .entry .place) r ⌝ }
 {
     next(reader.recording, reader.place)
-}
-
-// The reader at another place: behind a packet that it handed back, at that packet's `next`.
-pub fn moved<'a>(reader: Reader<'a>, place: usize) -> Reader<'a>
-    ensures { λ r. ⌜ ReadsFrom (reader .entry .recording) place r ⌝ }
-{
-    Reader {
-        recording: reader.recording,
-        place,
-    }
 }
