@@ -1,7 +1,7 @@
 /* Naupelys: the module software of a front panel with four rows of twenty characters, six keys and status lights, behind the
- * CFA635 packet protocol, as document 01 and order 2 of document 02 narrow it.
+ * CFA635 packet protocol, as document 01 and orders 2 and 4 of document 02 narrow it.
  *
- * Four calls over buffers that the caller lends. Nothing is allocated and nothing is kept between calls: all that the panel
+ * Five calls over buffers that the caller lends. Nothing is allocated and nothing is kept between calls: all that the panel
  * knows stands in the state. Every call returns, whatever the bytes, numbers and sizes, and no caller has to check first: a bad
  * argument is refused by its number, and then the state and every buffer are as they came (power-on apart, below); `said` is
  * written by every call. A pointer must point to as many bytes as its length says (and `said` to 16); a pointer whose length
@@ -10,21 +10,22 @@
  * From a power-on that returns 3 on, with the same font and the state and the picture lent back as the last call left them, the
  * picture is after every call the one that the state draws.
  *
- * The number that a call returns (also in said[0]); the lowest that applies is given:
+ * The number that a call returns (also in said[0]); the lowest that applies is given, but that 27 comes before 14:
  *
  *    1  waiting, the piece is used up        line
  *    2  a stray packet: not a command        line
  *    3  done                                 all
  *    4  a packet refused                     line
- *   10  state out of its ranges              all   (also: not 390 bytes)
+ *   10  state out of its ranges              all   (also: not 470 bytes)
  *   11  piece above 4,096 bytes              line
  *   12  picture not 640 bytes                line, power-on
  *   13  font not 2,048 bytes                 line, power-on
- *   14  change list not 80 bytes             line
+ *   14  list not 80 bytes                    line, symbol cells
  *   15  reply buffer not 26 bytes            line, key
  *   16  register not 448 bytes               line
  *   17  key above 5, or pin above 4          key, pin
  *   18  key already up or down as told       key
+ *   27  glyph above 7                        symbol cells
  *
  * What the call says, in 16 bytes; numbers of more than one byte have their little end first:
  *
@@ -35,11 +36,11 @@
  *    6-7    bytes dropped from the line
  *    8-11   bytes run through the checksum
  *   12      length of the reply (or key report) at the front of the reply buffer, 0 if none was written
- *   13      how many cells stand at the front of the change list
+ *   13      how many cells stand at the front of the list
  *   14-15   0
  *
- * The state, 390 bytes, the line's part first. Any 390 bytes are a state; those whose values the commands and events can set are
- * in their ranges:
+ * The state, 470 bytes, the line's part first. Any 470 bytes are a state. It is in its ranges if the commands and events can set
+ * each of its values, and the sets are those of the live text:
  *
  *      0        how many bytes of the line are held, 0 to 25
  *      1-25     the held bytes, oldest first; those behind the count mean nothing (power-on and an accepted line call leave zeros)
@@ -49,6 +50,8 @@
  *    368-370    keys down, pressed and released since the last poll: bit 0 up, 1 enter, 2 cancel, 3 left, 4 right, 5 down; 0 to 63
  *    371-373    pins: last level, fell and rose since last read; bit number = pin number, pins 0 to 4; 0 to 31
  *    374-389    user flash
+ *    390-469    the sets of cells that draw each special glyph, a byte for each cell: 1 + the number of the glyph whose set the cell
+ *               is in (its code in the live text is that number or 8 more), 0 where it is in none
  *
  * Settings, 169 bytes:
  *
@@ -81,11 +84,11 @@ extern "C" {
 #endif
 
 /* The number of the layouts above: another one where a byte of them has another place or meaning. */
-enum { NAUPELYS_LAYOUT = 2 };
+enum { NAUPELYS_LAYOUT = 3 };
 
 /* Sizes. */
 enum {
-    NAUPELYS_STATE = 390,
+    NAUPELYS_STATE = 470,
     NAUPELYS_PIECE_MOST = 4096,
     NAUPELYS_PICTURE = 640,
     NAUPELYS_FONT = 2048,
@@ -108,7 +111,8 @@ enum {
     NAUPELYS_STATE_PINS_LAST = 371,
     NAUPELYS_STATE_PINS_FELL = 372,
     NAUPELYS_STATE_PINS_ROSE = 373,
-    NAUPELYS_STATE_FLASH = 374
+    NAUPELYS_STATE_FLASH = 374,
+    NAUPELYS_STATE_SETS = 390
 };
 
 /* Places in settings, to be added to that of the live settings or of the boot state, and their size. */
@@ -164,7 +168,8 @@ enum {
     NAUPELYS_BAD_REPLY = 15,
     NAUPELYS_BAD_REGISTER = 16,
     NAUPELYS_BAD_NUMBER = 17,
-    NAUPELYS_KEY_AS_TOLD = 18
+    NAUPELYS_KEY_AS_TOLD = 18,
+    NAUPELYS_BAD_GLYPH = 27
 };
 
 /* The panel at power-on: writes the state, and draws all of the picture. With a picture or font of a wrong size the state is
@@ -197,6 +202,14 @@ uint8_t naupelys_key(uint8_t *state, size_t state_size,
 uint8_t naupelys_pin(uint8_t *state, size_t state_size,
                      uint32_t pin, bool high,
                      uint8_t *said);
+
+/* The cells that a special glyph is on, before it is redefined: glyph 0 to 7, and each cell of the live text whose code draws it
+ * (the glyph's number or 8 more), rising, one byte a cell at the front of the list. said[13] is how many there are. The state is
+ * only read. Checked are 10, 27 and 14, in this order. */
+uint8_t naupelys_symbol_cells(const uint8_t *state, size_t state_size,
+                              uint32_t glyph,
+                              uint8_t *list, size_t list_size,
+                              uint8_t *said);
 
 #ifdef __cplusplus
 }

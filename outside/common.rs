@@ -9,7 +9,7 @@ use std::process::exit;
 // What is lent to a call
 // ---------------------------------------------------------------------------------------------------------------------------
 
-const GUARD: usize = 16;
+pub const GUARD: usize = 16;
 const GUARD_BYTE: u8 = 0xA5;
 
 /// A lent buffer between two guards, which must stay as they are.

@@ -18,10 +18,11 @@ mod states;
 #[path = "traffic.rs"]
 mod traffic;
 
-use common::{expect, hex, print_difference, wrong_size, Buffer, Header};
+use common::{expect, hex, print_difference, wrong_size, Buffer, Header, GUARD};
 use reading::{checksum, FONT, LIST, PICTURE, PIECE_MOST, REGISTER, REPLY, SAID, STATE};
+use states::{mark, search, set_right, spoil_sets, way_of_wrong_sets, WRONG_SETS};
 use states::{possible_keys, program_font, random_font, random_register, random_state, spoil};
-use states::{BOOT, FLASH, GLYPHS, GLYPHS_END, LIVE, PINS, SETTINGS, TEXT, UNFILED};
+use states::{BOOT, FLASH, GLYPHS, GLYPHS_END, LIVE, PINS, SETS, SETTINGS, TEXT, UNFILED};
 use std::collections::{BTreeMap, BTreeSet};
 use std::io::Write;
 use std::process::exit;
@@ -94,6 +95,7 @@ enum Call {
     Line,
     Key(u32, bool),
     Pin(u32, bool),
+    SymbolCells(u32),
 }
 
 // ---------------------------------------------------------------------------------------------------------------------------
@@ -106,6 +108,7 @@ struct Test {
     sequence: u64,
     in_sequence: u64,
     calls: u64,
+    lists: u64,
     seen: Seen,
 }
 
@@ -154,6 +157,7 @@ impl Test {
                 ),
                 Call::Key(key, down) => library::naupelys_key(state, state_size, key, down, reply, reply_size, said),
                 Call::Pin(pin, high) => library::naupelys_pin(state, state_size, pin, high, said),
+                Call::SymbolCells(glyph) => library::naupelys_symbol_cells(state, state_size, glyph, list, list_size, said),
             }
         };
 
@@ -174,6 +178,9 @@ impl Test {
             ),
             Call::Key(key, down) => reading::key(ours.state.bytes_mut(), key, down, ours.reply.bytes_mut(), &mut our_said),
             Call::Pin(pin, high) => reading::pin(ours.state.bytes_mut(), pin, high, &mut our_said),
+            Call::SymbolCells(glyph) => {
+                reading::symbol_cells(ours.state.bytes(), glyph, ours.list.bytes_mut(), &mut our_said)
+            }
         };
         ours.said.bytes_mut().copy_from_slice(&our_said);
 
@@ -196,6 +203,56 @@ impl Test {
         }
         self.seen.note(call, &lent, &ours);
         ours
+    }
+
+    /// "After any calls each set equals what a search of the text finds": the sets of a state in its ranges, and the list of
+    /// each glyph that the library gives and that the reading gives, are those that a search finds here.
+    fn lists_are_the_search(&mut self, state: &[u8]) {
+        if state[SETS..] != search(state) {
+            self.not_the_search("the sets in the state", state);
+        }
+        let junk = self.calls as u8;
+        for glyph in 0..8 {
+            self.lists += 1;
+            let mut want = [junk; GUARD + LIST + GUARD];
+            let mut want_said = [0; SAID];
+            want_said[0] = reading::DONE;
+            for (cell, &code) in (0..).zip(&state[LIVE..LIVE + GLYPHS]) {
+                if code == glyph || code == glyph + 8 {
+                    want[GUARD + usize::from(want_said[13])] = cell;
+                    want_said[13] += 1;
+                }
+            }
+            let (mut theirs, mut ours) = ([junk; GUARD + LIST + GUARD], [junk; GUARD + LIST + GUARD]);
+            let (mut their_said, mut our_said) = ([junk; SAID], [junk; SAID]);
+            let their_list = &mut theirs[GUARD..GUARD + LIST];
+            // Safety: every pointer points to as many bytes as its length says, and no two buffers overlap.
+            let their_number = unsafe {
+                library::naupelys_symbol_cells(
+                    state.as_ptr(),
+                    state.len(),
+                    u32::from(glyph),
+                    their_list.as_mut_ptr(),
+                    their_list.len(),
+                    their_said.as_mut_ptr(),
+                )
+            };
+            let our_number = reading::symbol_cells(state, u32::from(glyph), &mut ours[GUARD..GUARD + LIST], &mut our_said);
+            if (their_number, their_said, theirs) != (reading::DONE, want_said, want) {
+                self.not_the_search("a list of the library", state);
+            }
+            if (our_number, our_said, ours) != (reading::DONE, want_said, want) {
+                self.not_the_search("a list of the reading", state);
+            }
+        }
+    }
+
+    fn not_the_search(&self, what: &str, state: &[u8]) -> ! {
+        println!();
+        println!("NOT THE SEARCH in {}, seed {}, sequence {}: {what}", self.part, self.seed, self.sequence);
+        println!("  after call {}; the text: {}", self.in_sequence, hex(&state[LIVE..LIVE + GLYPHS]));
+        println!("  the sets: {}", hex(&state[SETS..]));
+        exit(1);
     }
 
     fn report(&self, call: Call, lent: &Lent, piece: &[u8], font: &[u8], ours: &Lent, theirs: &Lent) {
@@ -223,8 +280,12 @@ impl Test {
 // ---------------------------------------------------------------------------------------------------------------------------
 
 struct Seen {
-    /// By call, in the order power-on, line, key, pin.
-    numbers: [[u64; 19]; 4],
+    /// By call, in the order power-on, line, key, pin, symbol cells.
+    numbers: [[u64; 28]; 5],
+    /// 10 for nothing but the sets, by call and by the way in which they are wrong.
+    wrong_sets: [[u64; WRONG_SETS.len()]; 5],
+    /// Lists that are not empty, by glyph.
+    listed: [u64; 8],
     /// By command.
     done: [u64; 64],
     refused: [u64; 64],
@@ -238,7 +299,7 @@ struct Seen {
 }
 
 /// Further things that have to be seen.
-const OTHER: [&str; 26] = [
+const OTHER: [&str; 52] = [
     "count raised",
     "free record taken",
     "unfiled, no room",
@@ -265,12 +326,40 @@ const OTHER: [&str; 26] = [
     "last levels above 31",
     "fell above 31",
     "rose above 31",
+    "10 where 27 applies too",
+    "10 where 14 applies too",
+    "10 where 27 and 14 apply too",
+    "10 for sets, where 27 and 14 apply too",
+    "27 where 14 applies too",
+    "glyph 8 refused",
+    "glyph 255 refused",
+    "glyph 256 refused",
+    "glyph 4,294,967,295 refused",
+    "glyph above 255 refused",
+    "glyph above 65,535 refused",
+    "a list of 0 bytes refused",
+    "a list of 79 bytes refused",
+    "a list of 81 bytes refused",
+    "a glyph on no cell",
+    "a glyph on one cell",
+    "a glyph on 80 cells",
+    "a glyph on cells of both its codes",
+    "31 puts a cell into a set",
+    "31 takes a cell out of a set",
+    "31 moves a cell to another set",
+    "31 writes another code of the same set",
+    "6 empties sets",
+    "5 brings other sets",
+    "4 with other sets than the boot text's",
+    "power-on empties sets",
 ];
 
 impl Seen {
     fn nothing() -> Seen {
         Seen {
-            numbers: [[0; 19]; 4],
+            numbers: [[0; 28]; 5],
+            wrong_sets: [[0; WRONG_SETS.len()]; 5],
+            listed: [0; 8],
             done: [0; 64],
             refused: [0; 64],
             reasons: [0; 6],
@@ -289,6 +378,7 @@ impl Seen {
             Call::Line => 1,
             Call::Key(..) => 2,
             Call::Pin(..) => 3,
+            Call::SymbolCells(_) => 4,
         };
         self.numbers[kind][usize::from(said.number)] += 1;
         if let (Call::Key(..), reading::DONE) = (call, said.number) {
@@ -298,6 +388,7 @@ impl Seen {
             }
         }
         self.note_numbers(call, before, after);
+        self.note_sets(kind, call, before, after);
         if !matches!(call, Call::Line) || said.number > reading::REFUSED {
             return;
         }
@@ -393,14 +484,87 @@ impl Seen {
         }
     }
 
+    /// The sets, and what is said of them.
+    fn note_sets(&mut self, kind: usize, call: Call, before: &Lent, after: &Lent) {
+        let said = after.said();
+        let (old, new) = (before.state.bytes(), after.state.bytes());
+        let mut other = |name: &'static str, seen: bool| *self.other.entry(name).or_default() += u64::from(seen);
+        // Only those that nothing else makes out of range: the same state with the right sets is read.
+        let mut way = None;
+        if said.number == reading::BAD_STATE && old.len() == STATE {
+            let mut right = old.to_vec();
+            set_right(&mut right);
+            if reading::pin(&mut right, 0, false, &mut [0; SAID]) == reading::DONE {
+                way = way_of_wrong_sets(old);
+                self.wrong_sets[kind][way.expect("nothing else is wrong")] += 1;
+            }
+        }
+        match (call, said.number) {
+            (Call::SymbolCells(glyph), reading::BAD_STATE) => {
+                let (no_glyph, no_list) = (glyph > 7, before.list.size() != LIST);
+                other("10 where 27 applies too", no_glyph && !no_list);
+                other("10 where 14 applies too", !no_glyph && no_list);
+                other("10 where 27 and 14 apply too", no_glyph && no_list);
+                other("10 for sets, where 27 and 14 apply too", no_glyph && no_list && way.is_some());
+            }
+            (Call::SymbolCells(glyph), reading::BAD_GLYPH) => {
+                other("27 where 14 applies too", before.list.size() != LIST);
+                other("glyph 8 refused", glyph == 8);
+                other("glyph 255 refused", glyph == 255);
+                other("glyph 256 refused", glyph == 256);
+                other("glyph 4,294,967,295 refused", glyph == u32::MAX);
+                // Only those whose low bytes alone would be a glyph.
+                other("glyph above 255 refused", glyph > 255 && glyph & 255 <= 7);
+                other("glyph above 65,535 refused", glyph > 65_535 && glyph & 65_535 <= 7);
+            }
+            (Call::SymbolCells(_), reading::BAD_LIST) => {
+                other("a list of 0 bytes refused", before.list.size() == 0);
+                other("a list of 79 bytes refused", before.list.size() == 79);
+                other("a list of 81 bytes refused", before.list.size() == 81);
+            }
+            (Call::SymbolCells(glyph), reading::DONE) => {
+                let codes: BTreeSet<u8> =
+                    after.list.bytes()[..said.cells].iter().map(|&cell| old[LIVE + usize::from(cell)]).collect();
+                self.listed[glyph as usize] += u64::from(said.cells > 0);
+                other("a glyph on no cell", said.cells == 0);
+                other("a glyph on one cell", said.cells == 1);
+                other("a glyph on 80 cells", said.cells == 80);
+                other("a glyph on cells of both its codes", codes.len() == 2);
+            }
+            (Call::Line, reading::DONE) => {
+                let cells: Vec<usize> = (0..80).filter(|&cell| old[LIVE + cell] != new[LIVE + cell]).collect();
+                let some = |change: fn(u8, u8) -> bool| cells.iter().any(|cell| change(old[SETS + cell], new[SETS + cell]));
+                let sets = |state: &[u8]| state[SETS..].to_vec();
+                match said.command {
+                    31 => {
+                        other("31 puts a cell into a set", some(|was, is| was == 0 && is > 0));
+                        other("31 takes a cell out of a set", some(|was, is| was > 0 && is == 0));
+                        other("31 moves a cell to another set", some(|was, is| was > 0 && is > 0 && was != is));
+                        other("31 writes another code of the same set", some(|was, is| was > 0 && was == is));
+                    }
+                    6 => other("6 empties sets", sets(old) != [0; 80]),
+                    5 => other("5 brings other sets", sets(old) != sets(new) && sets(new) != [0; 80]),
+                    4 => {
+                        let of_boot_text = old[BOOT..BOOT + GLYPHS].iter().map(|&code| mark(code));
+                        other("4 with other sets than the boot text's", of_boot_text.ne(sets(old)));
+                    }
+                    _ => {}
+                }
+            }
+            (Call::PowerOn, reading::DONE) => other("power-on empties sets", old[SETS..] != [0; 80]),
+            _ => {}
+        }
+    }
+
     /// Prints the counts; gives what was expected and not seen.
     fn print(&self) -> Vec<String> {
         let mut missing = Vec::new();
-        let expected: [(&str, &[usize]); 4] = [
+        let expected: [(&str, &[usize]); 5] = [
             ("power-on", &[3, 10, 12, 13]),
             ("line", &[1, 2, 3, 4, 10, 11, 12, 13, 14, 15, 16]),
             ("key", &[3, 10, 15, 17, 18]),
             ("pin", &[3, 10, 17]),
+            ("symbol cells", &[3, 10, 27, 14]),
         ];
         for (kind, (name, numbers)) in expected.into_iter().enumerate() {
             print!("answers, {name}:");
@@ -412,6 +576,24 @@ impl Seen {
             }
             println!();
         }
+        for (kind, (name, _)) in expected.into_iter().enumerate().skip(1) {
+            print!("10 for sets alone, {name}:");
+            for (way, seen) in WRONG_SETS.into_iter().zip(self.wrong_sets[kind]) {
+                print!(" {way}: {seen};");
+                if seen == 0 {
+                    missing.push(format!("{name} answering 10 for wrong sets: {way}"));
+                }
+            }
+            println!();
+        }
+        print!("symbol cells with some, by glyph:");
+        for (glyph, seen) in self.listed.into_iter().enumerate() {
+            print!(" {glyph}: {seen};");
+            if seen == 0 {
+                missing.push(format!("cells of glyph {glyph}"));
+            }
+        }
+        println!();
         print!("commands, done/refused:");
         for command in COMMANDS {
             let at = usize::from(command);
@@ -564,14 +746,34 @@ impl Desk {
         test.call(call, lent, &piece, &font).said()
     }
 
+    /// Symbol cells with a list of this size.
+    fn symbol_cells(&mut self, test: &mut Test, glyph: u32, size: usize) -> Said {
+        let mut lent = self.lend();
+        lent.list = Buffer::new(&self.rng.bytes(size));
+        test.call(Call::SymbolCells(glyph), lent, &[], &self.font).said()
+    }
+
+    /// The number of a glyph, more often of one that some cell draws.
+    fn glyph(&mut self) -> u32 {
+        let drawn: Vec<u8> = self.state[SETS..].iter().copied().filter(|&mark| (1..=8).contains(&mark)).collect();
+        if drawn.is_empty() || self.rng.one_in(4) {
+            self.rng.number(7)
+        } else {
+            u32::from(self.rng.pick(&drawn) - 1)
+        }
+    }
+
     fn any_call(&mut self) -> Call {
+        let glyph = self.glyph();
         let rng = &mut self.rng;
-        match rng.below(6) {
+        match rng.below(8) {
             0 => Call::Key(rng.number(5), rng.flag()),
             1 => Call::Pin(rng.number(4), rng.flag()),
-            2 if rng.one_in(3) => Call::Key(rng.no_number(5), rng.flag()),
-            2 if rng.flag() => Call::Pin(rng.no_number(4), rng.flag()),
-            2 => Call::PowerOn,
+            2 => Call::SymbolCells(glyph),
+            3 if rng.one_in(4) => Call::Key(rng.no_number(5), rng.flag()),
+            3 if rng.one_in(3) => Call::Pin(rng.no_number(4), rng.flag()),
+            3 if rng.flag() => Call::SymbolCells(rng.no_number(7)),
+            3 => Call::PowerOn,
             _ => Call::Line,
         }
     }
@@ -606,6 +808,10 @@ impl Desk {
             25 => self.rng.fill(&mut self.picture),
             26 if self.rng.one_in(3) => self.state = random_state(&mut self.rng),
             27 if self.rng.one_in(3) => self.register = random_register(&mut self.rng),
+            28..=30 => {
+                let glyph = if self.rng.one_in(6) { self.rng.no_number(7) } else { self.glyph() };
+                self.call(test, Call::SymbolCells(glyph), &[]);
+            }
             _ => self.next_piece(test),
         }
     }
@@ -637,12 +843,14 @@ fn sequence(test: &mut Test, seed: u64, number: u64) {
     let mut desk = Desk::random(Rng::for_sequence(seed, number));
     if desk.rng.flag() {
         desk.call(test, Call::PowerOn, &[]);
+        test.lists_are_the_search(&desk.state);
         if desk.rng.flag() {
             desk.register.fill(0);
         }
     }
     for _ in 0..desk.rng.between(10, 70) {
         desk.step(test);
+        test.lists_are_the_search(&desk.state);
     }
 }
 
@@ -771,6 +979,9 @@ fn worked_cases(test: &mut Test) -> u64 {
     expect("code 15 draws glyph 7", &desk.picture[24..32], &[1, 2, 3, 4, 5, 6, 7, 8]);
     expect("code 17 draws the font", &desk.picture[16..24], &[17; 8]);
 
+    let mut desk = at_power_on(test);
+    cases += symbol_cases(test, &mut desk);
+
     // The line program's sample: offset, number, command, reason and place of each event.
     let bytes = [0xFF, 0x00, 0x00, 0x47, 0x0F, 0x06, 0x01, 0x00, 0xCD, 0x09];
     let mut desk = at_power_on(test);
@@ -793,6 +1004,87 @@ fn worked_cases(test: &mut Test) -> u64 {
     cases + 4
 }
 
+/// Step, command and data; its number; a glyph, and the cells that it is on then.
+type SymbolCase = (&'static str, u8, &'static [u8], u8, u32, &'static [u8]);
+
+/// Order 4, from power-on. Gives how many cases.
+fn symbol_cases(test: &mut Test, desk: &mut Desk) -> u64 {
+    let mut cases = 0;
+    let done = Said { number: 3, command: 0, reason: 0, place: 0, taken: 0, dropped: 0, checked: 0, reply: 0, cells: 0 };
+
+    let rows: [SymbolCase; 21] = [
+        ("nothing written", 0, &[], 3, 0, &[]),
+        ("0 and 8 written at the end", 31, &[18, 3, 0, 8], 3, 0, &[78, 79]),
+        ("no other glyph is there", 0, &[], 3, 1, &[]),
+        ("8 over 0, 0 over 8", 31, &[18, 3, 8, 0], 3, 0, &[78, 79]),
+        ("1 over 0", 31, &[19, 3, 1], 3, 0, &[78]),
+        ("and then glyph 1 is there", 0, &[], 3, 1, &[79]),
+        ("a text that does not fit is refused", 31, &[19, 3, 0, 0], 4, 1, &[79]),
+        ("cleared", 6, &[], 3, 0, &[]),
+        ("and glyph 1 is gone too", 0, &[], 3, 1, &[]),
+        ("7, 15, 16 and 7 written", 31, &[0, 0, 7, 15, 16, 7], 3, 7, &[0, 1, 3]),
+        ("16 draws no glyph", 0, &[], 3, 0, &[]),
+        ("glyph 7 set", 9, &[7, 1, 2, 3, 4, 5, 6, 7, 8], 3, 7, &[0, 1, 3]),
+        ("stored", 4, &[], 3, 7, &[0, 1, 3]),
+        ("32, 6, 14 and 255 over them", 31, &[0, 0, 32, 6, 14, 255], 3, 7, &[]),
+        ("the boot text is not searched", 0, &[], 3, 6, &[1, 2]),
+        ("7 at the end", 31, &[19, 3, 7], 3, 7, &[79]),
+        ("no reboot, other bytes", 5, &[8, 18, 98], 4, 7, &[79]),
+        ("reboot", 5, &[8, 18, 99], 3, 7, &[0, 1, 3]),
+        ("and glyph 6 is gone", 0, &[], 3, 6, &[]),
+        ("cleared, and the boot text is not searched", 6, &[], 3, 7, &[]),
+        ("reboot again", 5, &[8, 18, 99], 3, 7, &[0, 1, 3]),
+    ];
+    for (step, command, data, number, glyph, cells) in rows {
+        expect("order 4", (step, desk.call(test, Call::Line, &packet(command, data)).number), (step, number));
+        let said = desk.call(test, Call::SymbolCells(glyph), &[]);
+        expect("order 4", (step, said), (step, Said { cells: cells.len(), ..done }));
+        expect("order 4", (step, desk.list.clone()), (step, cells.to_vec()));
+        test.lists_are_the_search(&desk.state);
+        cases += 1;
+    }
+
+    // "10, ... 27 glyph above 7, then 14": glyph, size of the list, and the number; then with sets that no longer fit the text.
+    let state = desk.state.clone();
+    let rows =
+        [(7, 80, 3), (8, 80, 27), (7, 79, 14), (8, 79, 27), (0, 81, 14), (u32::MAX, 0, 27), (256, 80, 27), (0, 0, 14)];
+    for (glyph, size, number) in rows {
+        expect("order 4, refusals", (glyph, size, desk.symbol_cells(test, glyph, size).number), (glyph, size, number));
+        desk.state[SETS + 2] = 1;
+        expect("order 4, 10 first", desk.symbol_cells(test, glyph, size), Said { number: 10, ..done });
+        desk.state.copy_from_slice(&state);
+        cases += 2;
+    }
+
+    // "10, now also for sets that differ from that search", for every call that checks 10. The boot text has glyph 7 in cells 0,
+    // 1 and 3, the live text glyph 2 in cell 5.
+    for piece in [packet(6, &[]), packet(31, &[5, 0, 10])] {
+        desk.call(test, Call::Line, &piece);
+    }
+    let right = desk.state.clone();
+    let cell_5 = |byte: u8| std::array::from_fn(|cell| if cell == 5 { byte } else { 0 });
+    let rows: [(&str, u8, [u8; 80]); 9] = [
+        ("the sets of the live text", 3, cell_5(3)),
+        ("no cell in a set", 10, [0; 80]),
+        ("glyph for 1 + glyph", 10, cell_5(2)),
+        ("the code for the glyph", 10, cell_5(11)),
+        ("a bit that means nothing", 10, cell_5(128 + 3)),
+        ("a cell on the left", 10, std::array::from_fn(|cell| 3 * u8::from(cell == 4))),
+        ("a cell on the right", 10, std::array::from_fn(|cell| 3 * u8::from(cell == 6))),
+        ("a cell too many, the last", 10, std::array::from_fn(|cell| 3 * u8::from(cell == 5 || cell == 79))),
+        ("the sets of the boot text", 10, std::array::from_fn(|cell| 8 * u8::from([0, 1, 3].contains(&cell)))),
+    ];
+    for (name, number, sets) in rows {
+        for call in [Call::Line, Call::Key(0, true), Call::Pin(0, true), Call::SymbolCells(2)] {
+            desk.state.copy_from_slice(&right);
+            desk.state[SETS..].copy_from_slice(&sets);
+            expect("order 4, sets", (name, desk.call(test, call, &packet(1, &[])).number), (name, number));
+            cases += 1;
+        }
+    }
+    cases
+}
+
 // ---------------------------------------------------------------------------------------------------------------------------
 // The names of the header
 // ---------------------------------------------------------------------------------------------------------------------------
@@ -813,7 +1105,7 @@ fn header_names(test: &mut Test) -> u64 {
         ("SETTINGS", SETTINGS),
         ("RECORD", REGISTER / 64),
         ("RECORDS", 64),
-        ("LAYOUT", 2),
+        ("LAYOUT", 3),
     ];
     for (name, size) in sizes {
         expect(name, header.number(name), size);
@@ -821,7 +1113,7 @@ fn header_names(test: &mut Test) -> u64 {
     let numbers = ["WAITING", "STRAY", "DONE", "REFUSED"].into_iter().zip(1..);
     let refused = ["BAD_STATE", "BAD_PIECE", "BAD_PICTURE", "BAD_FONT", "BAD_LIST", "BAD_REPLY", "BAD_REGISTER"];
     let refused = refused.into_iter().chain(["BAD_NUMBER", "KEY_AS_TOLD"]).zip(10..);
-    for (name, number) in numbers.chain(refused) {
+    for (name, number) in numbers.chain(refused).chain([("BAD_GLYPH", 27)]) {
         expect(name, header.number(name), number);
     }
 
@@ -852,6 +1144,10 @@ fn header_names(test: &mut Test) -> u64 {
         desk.call(test, Call::Line, &packet(command, data));
         expect(name, &desk.state[start..start + length], &data[data.len() - length..]);
     }
+    // Codes 13 and 32 are in cells 23 and 24: the one draws glyph 5, the other none.
+    desk.call(test, Call::Line, &packet(31, &[3, 1, 13, 32]));
+    let sets = header.number("STATE_SETS");
+    expect("STATE_SETS", &desk.state[sets + 22..sets + 25], &[0, 6, 0]);
     let boot = header.number("STATE_BOOT");
     expect("STATE_BOOT", desk.state[boot..boot + SETTINGS].to_vec(), factory);
     desk.call(test, Call::Line, &packet(4, &[]));
@@ -936,11 +1232,19 @@ fn sweeps(test: &mut Test) {
         for value in 0..=255 {
             let key = Call::Key(desk.rng.number(5), desk.rng.flag());
             let pin = Call::Pin(desk.rng.number(4), desk.rng.flag());
+            let glyph = if desk.rng.flag() { u32::from(value % 8) } else { desk.glyph() };
             let piece = if value % 4 == 0 { any_packet(&mut desk.rng) } else { Vec::new() };
-            for call in [Call::Line, key, pin] {
+            for call in [Call::Line, key, pin, Call::SymbolCells(glyph)] {
                 desk.state.copy_from_slice(&base);
                 desk.state[offset] = value;
                 desk.call(test, call, &piece);
+                if (LIVE..LIVE + GLYPHS).contains(&offset) {
+                    // The same text with its own sets.
+                    desk.state.copy_from_slice(&base);
+                    desk.state[offset] = value;
+                    set_right(&mut desk.state);
+                    desk.call(test, call, &piece);
+                }
             }
         }
         desk.call(test, Call::PowerOn, &[]);
@@ -994,6 +1298,18 @@ fn sweeps(test: &mut Test) {
         }
     }
 
+    for cell in 0..80 {
+        let mut desk = fresh(test, "the sweep over codes");
+        for code in 0..=255 {
+            if code % 32 == 0 {
+                desk.state = random_state(&mut desk.rng);
+                desk.state[0] = 0;
+            }
+            desk.call(test, Call::Line, &packet(31, &[cell % 20, cell / 20, code]));
+            test.lists_are_the_search(&desk.state);
+        }
+    }
+
     for pin in 0..=13 {
         let mut desk = fresh(test, "the sweep over configs");
         for config in 0..=255 {
@@ -1006,17 +1322,50 @@ fn sweeps(test: &mut Test) {
 
     // Every number of a byte, and those that would be one of them if their high bytes were lost.
     let wider = [256, 512, 0xFF00, 65_536, 0x00FF_0000, 0x0100_0000, 0x8000_0000, 0xFFFF_FF00];
-    let wide = wider.into_iter().flat_map(|high| (0..=6).map(move |low| high + low));
+    let wide = wider.into_iter().flat_map(|high| (0..=8).map(move |low| high + low));
     for value in (0..=255).chain(wide) {
-        let mut desk = fresh(test, "the sweep over keys and pins");
+        let mut desk = fresh(test, "the sweep over keys, pins and glyphs");
         for _ in 0..8 {
             let state = random_state(&mut desk.rng);
             for flag in [false, true] {
-                for call in [Call::Key(value, flag), Call::Pin(value, flag)] {
+                for call in [Call::Key(value, flag), Call::Pin(value, flag), Call::SymbolCells(value)] {
                     desk.state.copy_from_slice(&state);
                     desk.call(test, call, &[]);
                 }
             }
+        }
+    }
+
+    // Glyphs and sizes of the list, with a state in its ranges, with wrong sets, with another wrong value, and of a wrong size.
+    for glyph in (0..=16).chain([255, 256, 263, 65_535, 65_536, 0x0100_0000, 0x8000_0000, u32::MAX]) {
+        let mut desk = fresh(test, "the sweep over symbol cells");
+        for size in (0..=3).chain(78..=82).chain([40, 160, 255, 256, 336, 65_536, 65_616]) {
+            let right = random_state(&mut desk.rng);
+            desk.state.copy_from_slice(&right);
+            desk.symbol_cells(test, glyph, size);
+            spoil_sets(&mut desk.rng, &mut desk.state);
+            desk.symbol_cells(test, glyph, size);
+            desk.state.copy_from_slice(&right);
+            spoil(&mut desk.rng, &mut desk.state);
+            desk.symbol_cells(test, glyph, size);
+            for state_size in [0, STATE - 80, STATE - 1, STATE + 1, STATE + 80] {
+                desk.state = right.clone();
+                desk.state.resize(state_size, 0);
+                desk.symbol_cells(test, glyph, size);
+            }
+            desk.state = right;
+        }
+    }
+
+    // Every way of wrong sets, for every call.
+    for number in 0..2_000 {
+        let mut desk = fresh(test, "the sweep over wrong sets");
+        let key = Call::Key(desk.rng.number(5), number % 2 == 0);
+        let pin = Call::Pin(desk.rng.number(4), number % 2 == 0);
+        spoil_sets(&mut desk.rng, &mut desk.state);
+        let piece = any_packet(&mut desk.rng);
+        for call in [Call::Line, key, pin, Call::SymbolCells(desk.rng.number(7))] {
+            expect("wrong sets", desk.call(test, call, &piece).number, reading::BAD_STATE);
         }
     }
 
@@ -1055,7 +1404,8 @@ fn main() {
         std::env::args().skip(1).map(|text| text.parse().expect("the arguments are numbers: SEED SEQUENCE")).collect();
     let clock = SystemTime::now().duration_since(UNIX_EPOCH).map_or(1, |since| since.as_nanos() as u64);
     let second_seed = arguments.first().copied().unwrap_or(clock);
-    let mut test = Test { part: "", seed: FIXED_SEED, sequence: 0, in_sequence: 0, calls: 0, seen: Seen::nothing() };
+    let mut test =
+        Test { part: "", seed: FIXED_SEED, sequence: 0, in_sequence: 0, calls: 0, lists: 0, seen: Seen::nothing() };
 
     if let Some(&number) = arguments.get(1) {
         test.part = "the random sequences";
@@ -1082,9 +1432,11 @@ fn main() {
         exit(1);
     }
     println!(
-        "no difference: {cases} worked cases, {} sequences; {} calls compared, {swept} of them in cases and sweeps; {:.1} s",
+        "no difference: {cases} worked cases, {} sequences; {} calls compared, {swept} of them in cases and sweeps; {} lists of \
+         a glyph are what a search finds; {:.1} s",
         2 * SEQUENCES,
         test.calls,
+        test.lists,
         start.elapsed().as_secs_f64()
     );
 }

@@ -28,7 +28,7 @@ use common::{expect, hex, print_difference, wrong_size, Buffer, Header};
 use host_reading::{BAD_BUFFER, ERROR, PACKET, READING, REPLY, REPORT, UNREADABLE};
 use panel::Panel;
 use reading::{DONE, REFUSED, SAID};
-use states::{possible_keys, random_state, FLASH, GLYPHS, KEYS, LIVE, PINS};
+use states::{possible_keys, random_state, set_right, FLASH, GLYPHS, KEYS, LIVE, PINS, SETS};
 use std::collections::{BTreeMap, BTreeSet};
 use std::fmt::Debug;
 use std::io::Write;
@@ -237,7 +237,7 @@ fn meant(state: &[u8], command: u8, data: &[u8]) -> Vec<u8> {
     match command {
         0 => data.to_vec(),
         1 => VERSION.to_vec(),
-        3 => state[FLASH..].to_vec(),
+        3 => state[FLASH..SETS].to_vec(),
         10 => [data, &state[place_of(data[0])..][..8]].concat(),
         24 => state[KEYS..PINS].to_vec(),
         35 => {
@@ -277,9 +277,10 @@ fn write_as_read(panel: &mut Panel, rng: &mut Rng, read: &Read) {
 fn asking(state: &mut [u8], rng: &mut Rng, command: u8, values: &[u8]) -> Vec<u8> {
     match (command, values) {
         (0, _) => return values.to_vec(),
-        (3, _) => state[FLASH..].copy_from_slice(values),
+        (3, _) => state[FLASH..SETS].copy_from_slice(values),
         (10, [address, bytes @ ..]) => {
             state[place_of(*address)..][..8].copy_from_slice(bytes);
+            set_right(state);
             return vec![*address];
         }
         (24, _) => state[KEYS..PINS].copy_from_slice(values),

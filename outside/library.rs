@@ -38,6 +38,14 @@ extern "C" {
         said: *mut u8,
     ) -> u8;
     pub fn naupelys_pin(state: *mut u8, state_size: usize, pin: u32, high: bool, said: *mut u8) -> u8;
+    pub fn naupelys_symbol_cells(
+        state: *const u8,
+        state_size: usize,
+        glyph: u32,
+        list: *mut u8,
+        list_size: usize,
+        said: *mut u8,
+    ) -> u8;
 
     // naupelys_host.h
     pub fn naupelys_compose(

@@ -1,7 +1,7 @@
-//! A second reading of document 01 and of document 02's order 2, in plain Rust, written from the papers and from `naupelys.h`
-//! alone. It shares nothing with the library, so that the two can be compared. The headings are document 01's.
+//! A second reading of document 01 and of document 02's orders 2 and 4, in plain Rust, written from the papers and from
+//! `naupelys.h` alone. It shares nothing with the library, so that the two can be compared. The headings are document 01's.
 
-pub const STATE: usize = 390;
+pub const STATE: usize = 470;
 pub const PIECE_MOST: usize = 4096;
 pub const PICTURE: usize = 640;
 pub const FONT: usize = 2048;
@@ -273,14 +273,18 @@ struct Panel {
     rose: [u8; 5],
     flash: [u8; 16],
     unfiled: u32,
+    /// "Keep, beside the text": the live one.
+    sets: Sets,
 }
 
 impl Panel {
     /// "At power-on flash is zeros, keys up, pins low, poll bytes and edges clear, nothing held, unfiled 0."
     fn at_power_on() -> Panel {
+        let live = Settings::factory();
         Panel {
             hold: Hold { count: 0, bytes: [0; HELD_MOST + 1] },
-            live: Settings::factory(),
+            sets: search(&live.text),
+            live,
             boot: Settings::factory(),
             down: 0,
             pressed: 0,
@@ -294,15 +298,17 @@ impl Panel {
     }
 
     /// "at most 25 bytes are held and each value, boot state included and taken alone (each key and edge bit too), is one that
-    /// the commands and events below can set".
+    /// the commands and events below can set". Document 02, order 4: "10, now also for sets that differ from that search". It
+    /// is the live text that is searched.
     fn in_range(&self) -> bool {
         self.hold.count <= HELD_MOST
             && self.live.in_range()
             && self.boot.in_range()
             && [self.down, self.pressed, self.released].iter().all(|&keys| keys < 1 << KEYS)
+            && self.sets == search(&self.live.text)
     }
 
-    /// The panel in these bytes, if there are 390 and it is in its ranges.
+    /// The panel in these bytes, if there are 470 and it is in its ranges.
     fn decode(state: &[u8]) -> Option<Panel> {
         if state.len() != STATE {
             return None;
@@ -323,6 +329,7 @@ impl Panel {
             fell: pins_of(bytes.byte())?,
             rose: pins_of(bytes.byte())?,
             flash: bytes.take(),
+            sets: bytes.take(),
         };
         panel.in_range().then_some(panel)
     }
@@ -337,6 +344,7 @@ impl Panel {
         room.put(&[self.down, self.pressed, self.released]);
         room.put(&[bits_of(&self.last), bits_of(&self.fell), bits_of(&self.rose)]);
         room.put(&self.flash);
+        room.put(&self.sets);
     }
 }
 
@@ -392,6 +400,7 @@ pub const BAD_REPLY: u8 = 15;
 pub const BAD_REGISTER: u8 = 16;
 pub const BAD_NUMBER: u8 = 17;
 pub const KEY_AS_TOLD: u8 = 18;
+pub const BAD_GLYPH: u8 = 27;
 
 /// "An answer without a command, reason or place gives 0 for it", and so for every count.
 #[derive(Default)]
@@ -540,6 +549,7 @@ impl Panel {
             4 => self.boot = live.clone(),
             5 => {
                 self.live = self.boot.clone();
+                self.sets = search(&self.live.text);
                 self.pressed = 0;
                 self.released = 0;
                 self.fell = [0; 5];
@@ -547,6 +557,8 @@ impl Panel {
             }
             6 => {
                 live.text = [32; 80];
+                // No space draws a glyph.
+                self.sets = [0; CELLS];
                 live.column = 0;
                 live.row = 0;
             }
@@ -575,6 +587,7 @@ impl Panel {
                 let cell = 20 * usize::from(data[1]) + usize::from(data[0]);
                 let text = &data[2..];
                 live.text[cell..cell + text.len()].copy_from_slice(text);
+                self.sets = search(&live.text);
             }
             34 => {
                 let pin = usize::from(data[0]);
@@ -610,6 +623,18 @@ pub const CELLS: usize = 80;
 /// Document 02, order 2: "code c from 0 to 15 draws glyph c mod 8."
 fn glyph_of(code: u8) -> Option<usize> {
     (code <= 15).then_some(usize::from(code % 8))
+}
+
+/// Document 02, order 4: "the set of cells that draw each of the eight glyphs", a byte for each cell: 1 + the number of the
+/// glyph whose set the cell is in, 0 where it is in none.
+type Sets = [u8; CELLS];
+
+/// "each set equals what a search of the text finds".
+fn search(text: &[u8; CELLS]) -> Sets {
+    text.map(|code| match glyph_of(code) {
+        Some(glyph) => 1 + glyph as u8,
+        None => 0,
+    })
 }
 
 /// A code's glyph, or else: "any other code c draws font bytes 8c to 8c + 7, low six bits."
@@ -648,10 +673,10 @@ fn repaint(before: &Settings, after: &Settings, font: &[u8], picture: &mut [u8],
 }
 
 // ---------------------------------------------------------------------------------------------------------------------------
-// The four calls
+// The five calls
 // ---------------------------------------------------------------------------------------------------------------------------
 
-/// The panel at power-on. "a refused power-on still returns the power-on state"; a state that is not 390 bytes has no room for
+/// The panel at power-on. "a refused power-on still returns the power-on state"; a state that is not 470 bytes has no room for
 /// it, and is answered with 10.
 pub fn power_on(state: &mut [u8], picture: &mut [u8], font: &[u8], said: &mut [u8; SAID]) -> u8 {
     if state.len() != STATE {
@@ -810,4 +835,27 @@ pub fn pin(state: &mut [u8], pin: u32, high: bool, said: &mut [u8; SAID]) -> u8 
     panel.last[pin] = level;
     panel.encode(state);
     Answer::only(DONE).say(said)
+}
+
+/// Document 02, order 4: "which cells a symbol is on", as a rising list. "10 ..., 27 glyph above 7, then 14 for a list buffer of
+/// wrong size": in this order, and not the lowest first.
+pub fn symbol_cells(state: &[u8], glyph: u32, list: &mut [u8], said: &mut [u8; SAID]) -> u8 {
+    let Some(panel) = Panel::decode(state) else {
+        return Answer::only(BAD_STATE).say(said);
+    };
+    if glyph > 7 {
+        return Answer::only(BAD_GLYPH).say(said);
+    }
+    if list.len() != LIST {
+        return Answer::only(BAD_LIST).say(said);
+    }
+
+    let mut answer = Answer::only(DONE);
+    for (cell, &set) in panel.sets.iter().enumerate() {
+        if u32::from(set) == 1 + glyph {
+            list[answer.cells] = cell as u8;
+            answer.cells += 1;
+        }
+    }
+    answer.say(said)
 }

@@ -104,6 +104,20 @@ pub unsafe extern "C" fn naupelys_pin(state: *mut u8, state_size: usize, pin: u3
 }
 
 /// # Safety
+/// As `naupelys.h` says.
+#[no_mangle]
+pub unsafe extern "C" fn naupelys_symbol_cells(
+    state: *const u8,
+    state_size: usize,
+    glyph: u32,
+    list: *mut u8,
+    list_size: usize,
+    said: *mut u8,
+) -> u8 {
+    reading::symbol_cells(given(state, state_size), glyph, lent(list, list_size), answer(said))
+}
+
+/// # Safety
 /// As `naupelys_host.h` says.
 #[no_mangle]
 pub unsafe extern "C" fn naupelys_read_reply(bytes: *const u8, size: usize, reading: *mut u8) -> u8 {

@@ -11,6 +11,7 @@ pub const BOOT: usize = 199;
 pub const KEYS: usize = 368;
 pub const PINS: usize = 371;
 pub const FLASH: usize = 374;
+pub const SETS: usize = 390;
 pub const SETTINGS: usize = 169;
 
 /// Where text and glyphs stand in settings, and where the glyphs end.
@@ -27,7 +28,8 @@ pub fn field_of_state(offset: usize) -> &'static str {
         BOOT..KEYS => "(boot state)",
         KEYS..PINS => "(keys)",
         PINS..FLASH => "(pins)",
-        FLASH..STATE => "(flash)",
+        FLASH..SETS => "(flash)",
+        SETS..STATE => "(sets)",
         _ => "(behind)",
     }
 }
@@ -60,7 +62,7 @@ fn settings_most(offset: usize) -> Option<u8> {
     }
 }
 
-/// The same for a byte of the state; held bytes, text, flash and unfiled are free.
+/// The same for a byte of the state; held bytes, text, flash and unfiled are free, and the sets follow the live text.
 fn state_most(offset: usize) -> Option<u8> {
     match offset {
         0 => Some(25),
@@ -74,6 +76,97 @@ fn state_most(offset: usize) -> Option<u8> {
 
 fn is_config(offset: usize) -> bool {
     (LIVE + 164..LIVE + SETTINGS).contains(&offset) || (BOOT + 164..BOOT + SETTINGS).contains(&offset)
+}
+
+/// What is kept of a cell with this code: 1 + the number of the glyph that it draws, 0 if it draws none.
+pub fn mark(code: u8) -> u8 {
+    match code {
+        0..=7 => code + 1,
+        8..=15 => code - 7,
+        _ => 0,
+    }
+}
+
+/// What a search of the live text finds, as the state keeps it.
+pub fn search(state: &[u8]) -> Vec<u8> {
+    state[LIVE..LIVE + GLYPHS].iter().map(|&code| mark(code)).collect()
+}
+
+/// Makes the sets those of the live text.
+pub fn set_right(state: &mut [u8]) {
+    let right = search(state);
+    state[SETS..].copy_from_slice(&right);
+}
+
+/// How sets can differ from those of the live text; the last way is any other.
+pub const WRONG_SETS: [&str; 9] = [
+    "one bit, so that it means nothing",
+    "one cell in no set",
+    "one cell in another set",
+    "one cell too many",
+    "shifted",
+    "of the boot text",
+    "none",
+    "glyph for 1 + glyph",
+    "any",
+];
+
+/// Which of these ways it is, if the sets differ at all.
+pub fn way_of_wrong_sets(state: &[u8]) -> Option<usize> {
+    let (right, sets) = (search(state), &state[SETS..]);
+    let wrong: Vec<usize> = (0..80).filter(|&cell| sets[cell] != right[cell]).collect();
+    let &cell = wrong.first()?;
+    let rotated = |by: usize| right[by..] == sets[..80 - by] && right[..by] == sets[80 - by..];
+    let boot_text = &state[BOOT..BOOT + GLYPHS];
+    Some(match (wrong.len(), sets[cell], right[cell]) {
+        (1, 0, _) => 1,
+        (1, 1..=8, 1..) => 2,
+        (1, 1..=8, 0) => 3,
+        (1, is, was) if (is ^ was).is_power_of_two() => 0,
+        _ if rotated(1) || rotated(79) => 4,
+        _ if boot_text.iter().zip(sets).all(|(&code, &is)| is == mark(code)) => 5,
+        _ if sets.iter().all(|&is| is == 0) => 6,
+        _ if right.iter().zip(sets).all(|(&was, &is)| is == was.saturating_sub(1)) => 7,
+        _ => 8,
+    })
+}
+
+/// Makes the sets differ from those of the live text.
+pub fn spoil_sets(rng: &mut Rng, state: &mut [u8]) {
+    set_right(state);
+    let right = state[SETS..].to_vec();
+    let cell = if rng.one_in(4) { rng.pick(&[0, 79]) } else { rng.below(80) };
+    let sets = &mut state[SETS..];
+    match rng.below(12) {
+        0 => sets[cell] ^= 1 << rng.below(8),
+        1 => sets[cell] = rng.up_to(8),
+        2 => sets.rotate_left(1),
+        3 => sets.rotate_right(1),
+        4 | 5 => {
+            for at in 0..80 {
+                state[SETS + at] = mark(state[BOOT + at]);
+            }
+        }
+        6 => sets.fill(0),
+        7 => sets.iter_mut().for_each(|mark| *mark = mark.saturating_sub(1)),
+        // Another text, its sets not followed.
+        8 => state[LIVE + cell] = code(rng),
+        9 => state[LIVE..LIVE + GLYPHS].fill(32),
+        // Only the codes from 0 to 7, or those up to 23 too.
+        10 => {
+            let most = rng.pick(&[7, 23]);
+            for at in 0..80 {
+                let shown = state[LIVE + at];
+                state[SETS + at] = if shown <= most { shown % 8 + 1 } else { 0 };
+            }
+        }
+        _ => rng.fill(sets),
+    }
+    // Some of these are right by chance, as where the text has no glyph.
+    if search(state) == state[SETS..] {
+        state[SETS..].copy_from_slice(&right);
+        state[SETS + cell] ^= 1 << rng.below(8);
+    }
 }
 
 pub fn random_state(rng: &mut Rng) -> Vec<u8> {
@@ -124,11 +217,15 @@ pub fn random_state(rng: &mut Rng) -> Vec<u8> {
     }
     let unfiled = if rng.one_in(3) { 0 } else { rng.count() };
     state[UNFILED..LIVE].copy_from_slice(&unfiled.to_le_bytes());
+    set_right(&mut state);
     state
 }
 
-/// Pushes one value out of its range.
+/// Pushes one value out of its range, or the sets away from the text.
 pub fn spoil(rng: &mut Rng, state: &mut [u8]) {
+    if rng.one_in(3) {
+        return spoil_sets(rng, state);
+    }
     let offset = loop {
         // The settings have most of the bytes; the others get their turn too.
         let offset = match rng.below(4) {

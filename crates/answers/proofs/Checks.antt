@@ -8,7 +8,7 @@ use Rattle.lists.specs.Tests.{when_then_else_}
 use Rattle.lists.proofs.Laws.{when-true, when-false}
 use Rattle.panel.specs.declared.Panel.{Panel}
 use Rattle.answers.specs.declared.Check.{Check}
-use Rattle.answers.specs.declared.Check.the-variants.{StateRange, PieceSize, PictureSize, FontSize, ListSize, ReplySize, RegisterSize, KeyOrPin, KeyAsTold}
+use Rattle.answers.specs.declared.Check.the-variants.{StateRange, PieceSize, PictureSize, FontSize, ListSize, ReplySize, RegisterSize, KeyOrPin, KeyAsTold, GlyphNumber}
 use Rattle.answers.specs.declared.Checked.{Checked}
 use Rattle.answers.specs.declared.Checked.the-variants.{Passes, Fails}
 use Rattle.answers.specs.declared.Answer.the-variants.{CallRefused}
@@ -86,6 +86,7 @@ from-ten ReplySize = omega arith
 from-ten RegisterSize = omega arith
 from-ten KeyOrPin = omega arith
 from-ten KeyAsTold = omega arith
+from-ten GlyphNumber = omega arith
 
 pub refused-from-ten : (c : Check) → 10 ≤ numbersOf (CallRefused c) .number
 unfolding numbersOf

@@ -8,14 +8,14 @@ use Rattle.panel.specs.declared.Panel.{Panel}
 use Rattle.panel.specs.State.{lineUnfiled}
 use Rattle.verdict.specs.Verdict.{reasonNumber}
 use Rattle.answers.specs.declared.Check.{Check}
-use Rattle.answers.specs.declared.Check.the-variants.{StateRange, PieceSize, PictureSize, FontSize, ListSize, ReplySize, RegisterSize, KeyOrPin, KeyAsTold}
+use Rattle.answers.specs.declared.Check.the-variants.{StateRange, PieceSize, PictureSize, FontSize, ListSize, ReplySize, RegisterSize, KeyOrPin, KeyAsTold, GlyphNumber}
 use Rattle.answers.specs.declared.Answer.{Answer}
 use Rattle.answers.specs.declared.Answer.the-variants.{Waiting, Stray, Done, Refused, CallRefused}
 use Rattle.answers.specs.declared.Said.{Said}
 use Rattle.answers.specs.declared.Numbers.{Numbers}
 use Rattle.answers.specs.declared.Filing.{Filing}
 
--- the table of "What a call says", from 10 on
+-- the table of "What a call says", from 10 on; "27 glyph above 7" (document 02, order 4)
 unfoldable pub checkNumber : Check → ℕ
 checkNumber StateRange = 10
 checkNumber PieceSize = 11
@@ -26,6 +26,7 @@ checkNumber ReplySize = 15
 checkNumber RegisterSize = 16
 checkNumber KeyOrPin = 17
 checkNumber KeyAsTold = 18
+checkNumber GlyphNumber = 27
 
 abbrev pub numbered : ℕ → ℕ → Numbers
 numbered number command = record { number = number; command = command; reason = 0; place = 0 }

@@ -19,6 +19,7 @@ pub enum Check {
     RegisterSize,
     KeyOrPin,
     KeyAsTold,
+    GlyphNumber,
 }
 
 // A stray, a done command and a refused packet carry the command, a refused packet its reason and place too; a call that is
@@ -100,6 +101,7 @@ fn check_number(check: Check) -> u8
         Check::RegisterSize => 16,
         Check::KeyOrPin => 17,
         Check::KeyAsTold => 18,
+        Check::GlyphNumber => 27,
     }
 }
 

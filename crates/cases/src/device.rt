@@ -8,6 +8,7 @@ use crate::words::HIGH;
 use crate::words::LEND;
 use crate::words::LINE;
 use crate::words::LOW;
+use crate::words::MARK;
 use crate::words::PRESS;
 use crate::words::RELEASE;
 use crate::words::SET;
@@ -138,6 +139,7 @@ fn on_state(word: usize, line: &[u8], state: [u8; sizes::STATE]) -> [u8; sizes::
         SIZES => crate::wrong::sizes(line, state),
         SET => crate::wrong::set(line, state),
         UNFILED => crate::wrong::unfiled(line, state),
+        MARK => crate::wrong::mark(line, state),
         _ => state,
     }
 }

@@ -8,6 +8,7 @@ use crate::text::filled;
 use crate::text::labelled;
 use crate::text::word;
 use crate::words::CELL;
+use crate::words::CELLS;
 use crate::words::FAULTS;
 use crate::words::PICTURE;
 use crate::words::POWER;
@@ -21,6 +22,9 @@ use statebytes::places::COUNT;
 use statebytes::places::DOWN;
 use statebytes::places::LAST;
 use statebytes::places::LIVE;
+
+// The room that a symbol's list is in: one byte more than a list has.
+pub const ROOM: usize = sizes::LIST + 1;
 
 // A line for a line call, unless it waits: its answer, the reply and the cells listed.
 pub fn line(said: &[u8; sizes::SAID], reply: &[u8; sizes::REPLY], list: &[u8; sizes::LIST]) {
@@ -39,6 +43,14 @@ pub fn key(said: &[u8; sizes::SAID], reply: &[u8; sizes::REPLY]) {
     filled(b": % reply", said, 0);
     bytes(reply, 0, told(said).reply, true);
     end();
+}
+
+// For the cells of a symbol its number, the cells, and the checksum of the room that the list is in.
+pub fn cells(said: &[u8; sizes::SAID], room: &[u8; ROOM]) {
+    filled(b": % cells", said, 0);
+    bytes(room, 0, told(said).listed, false);
+    word(b" list");
+    crate::text::checksum(room);
 }
 
 // For any other call its number.
@@ -82,7 +94,7 @@ fn pins(state: &[u8]) -> [u8; 15] {
     bits
 }
 
-// The state, but for the texts, glyphs and flash, which commands read.
+// The state, but for the texts, glyphs and flash, which commands read, and the sets.
 pub fn state(state: &[u8]) {
     filled(
         b": cursor % % style % contrast % backlight % masks % % levels % % % % % % % % % % % % % configs % % % % %",
@@ -116,6 +128,7 @@ pub fn run(name: usize, line: &[u8], b: Buffers) {
         CELL => cell(&b.picture, decimal(line, 0, 255)),
         PICTURE => crate::text::checksum(&b.picture),
         POWER => crate::wrong::power(line),
+        CELLS => crate::wrong::cells(line, b.state),
         _ => {}
     }
 }

@@ -1,6 +1,7 @@
 // Calls with buffers of other sizes, states that no command sets, and counts that no case could reach by refusals.
 ghost use Prim.Native.Nat.{_≤_};
 use crate::buffers::Buffers;
+use crate::show::ROOM;
 use crate::text::decimal;
 use registerbytes::RECORD;
 use session::sizes::SAID;
@@ -10,6 +11,7 @@ use statebytes::places::CONTRAST;
 use statebytes::places::COUNT;
 use statebytes::places::DOWN;
 use statebytes::places::LIVE;
+use statebytes::places::SETS;
 use statebytes::places::STYLE;
 use statebytes::places::UNFILED;
 
@@ -82,6 +84,17 @@ pub fn lend(line: &[u8], state: [u8; STATE]) -> [u8; STATE] {
     t
 }
 
+// The cells of a glyph in a list of the size that stands behind the glyph. What is in the list's room before, 170, shows which of
+// its bytes are written.
+pub fn cells(line: &[u8], state: [u8; STATE]) {
+    let mut room = [170u8; ROOM];
+    let mut said = [0u8; SAID];
+    let glyph = decimal(line, 0, 4294967295) as u32;
+    let size = decimal(line, 1, ROOM);
+    naupelys::naupelys_symbol_cells(&state, glyph, &mut room[..size], &mut said);
+    crate::show::cells(&said, &room);
+}
+
 // One value of the state set without a command, by the first letter behind "set": the live settings' contrast, the boot
 // state's style, the keys down or how many bytes are held.
 pub fn set(line: &[u8], state: [u8; STATE]) -> [u8; STATE] {
@@ -93,6 +106,14 @@ pub fn set(line: &[u8], state: [u8; STATE]) -> [u8; STATE] {
         _ => COUNT,
     };
     shapes::lay_byte(&mut t, place, decimal(line, 0, 255) as u8);
+    t
+}
+
+// A cell's byte in the sets: the cell and the byte.
+pub fn mark(line: &[u8], state: [u8; STATE]) -> [u8; STATE] {
+    let mut t = state;
+    let place = SETS + decimal(line, 0, 79);
+    shapes::lay_byte(&mut t, place, decimal(line, 1, 255) as u8);
     t
 }
 

@@ -1,6 +1,7 @@
 -- What each command does to the body: a function of the body and the packet's code and data alone.
 use Prim.Native.Nat.{ℕ, _+_, _*_, _%_}
 use mathlib.Core.Path.{_≡_}
+use mathlib.Core.Bool.{Bool, _||_}
 use mathlib.Core.List.{List}
 use lib.ListN.{length, getD, drop, set, replicate}
 use Rattle.lists.specs.Tests.{when_then_else_, _=?_}
@@ -17,16 +18,17 @@ use Rattle.panel.specs.declared.Settings.{Settings}
 use Rattle.panel.specs.declared.Keys.{Keys}
 use Rattle.panel.specs.declared.Pins.{Pins}
 use Rattle.panel.specs.declared.Body.{Body}
-use Rattle.panel.specs.State.{withStyle, withContrast, withBacklight, withLive, withKeys, withPins}
+use Rattle.panel.specs.State.{withStyle, withContrast, withBacklight, withLive, withKeys, withPins, withSets}
+use Rattle.sets.specs.Sets.{searched}
 use Rattle.glyphs.specs.Glyphs.{eightFrom, glyphsWith}
 
 -- 2: "writes user flash"
 abbrev pub withFlash : Body → List ℕ → Body
-withFlash b d = record { live = b .live; boot = b .boot; keys = b .keys; pins = b .pins; flash = pasted (b .flash) 0 d }
+withFlash b d = record { live = b .live; boot = b .boot; keys = b .keys; pins = b .pins; flash = pasted (b .flash) 0 d; sets = b .sets }
 
 -- 4: "stores boot state"
 abbrev pub stored : Body → Body
-stored b = record { live = b .live; boot = b .live; keys = b .keys; pins = b .pins; flash = b .flash }
+stored b = record { live = b .live; boot = b .live; keys = b .keys; pins = b .pins; flash = b .flash; sets = b .sets }
 
 -- 24: "clears the last two"
 abbrev pub polled : Keys → Keys
@@ -42,6 +44,7 @@ rebooted b =
       keys = polled (b .keys);
       pins = record { last = b .pins .last; fell = 0; rose = 0 };
       flash = b .flash;
+      sets = b .sets;
     }
 
 -- settings with another group
@@ -113,15 +116,27 @@ liveAfter code d s =
     else when code =? 34 then withWires s (pinSet (s .wires) d)
     else s
 
--- the same column for the whole body; commands 0, 1, 3 and 10 change nothing
-unfoldable pub effect : ℕ → List ℕ → Body → Body
-effect code d b =
+-- the same column for the whole body but its sets; commands 0, 1, 3 and 10 change nothing
+unfoldable pub butSets : ℕ → List ℕ → Body → Body
+butSets code d b =
     when code =? 2 then withFlash b d
     else when code =? 4 then stored b
     else when code =? 5 then rebooted b
     else when code =? 24 then withKeys b (polled (b .keys))
     else when code =? 35 then withPins b (pinRead (b .pins) d)
     else withLive b (liveAfter code d (b .live))
+
+-- the commands that change the live text: a reboot, which may bring another one back, a clear and a text
+abbrev pub changesText : ℕ → Bool
+changesText code = (code =? 5) || (code =? 6) || (code =? 31)
+
+-- the sets as a search of the live text finds them
+abbrev pub setsSearched : Body → Body
+setsSearched b = withSets b (searched (b .live .shown .text))
+
+-- what a command does: "After any calls each set equals what a search of the text finds" (document 02, order 4)
+unfoldable pub effect : ℕ → List ℕ → Body → Body
+effect code d b = when changesText code then setsSearched (butSets code d b) else butSets code d b
 
 -- what `effect_of` promises, of the command that the packet's low six type bits name
 abbrev pub Affects : Body → Packet → Body → Type 0

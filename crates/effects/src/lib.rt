@@ -1,7 +1,7 @@
 // What a command does to the body. Past the end of its data a command reads zeros.
 ghost use mathlib.Core.Path.{_≡_};
 ghost use lib.ListN.{set};
-ghost use Rattle.effects.specs.Effects.{withFlash, stored, polled, rebooted, cleared, glyphSet, textWritten, pinSet, pinRead, liveAfter, effect, Affects};
+ghost use Rattle.effects.specs.Effects.{withFlash, stored, polled, rebooted, cleared, glyphSet, textWritten, pinSet, pinRead, liveAfter, butSets, changesText, setsSearched, Affects};
 use packets::CONTENT;
 use packets::Packet;
 use panel::Body;
@@ -179,8 +179,9 @@ fn live_after(mut live: Settings, code: u8, content: &[u8]) -> Settings
     }
 }
 
+// The body after a command, with the sets as they were.
 fn body_after(mut b: Body, code: u8, content: &[u8]) -> Body
-    ensures { λ r. ⌜ r ≡ effect code (now (content .entry)) b ⌝ }
+    ensures { λ r. ⌜ r ≡ butSets code (now (content .entry)) b ⌝ }
 {
     match code {
         2 => write_flash(b, content),
@@ -204,6 +205,23 @@ fn body_after(mut b: Body, code: u8, content: &[u8]) -> Body
     }
 }
 
+// Whether a command changes the live text: 5 may bring another one back.
+fn changes_text(code: u8) -> bool
+    ensures { λ r. ⌜ r ≡ changesText code ⌝ }
+{
+    (code == 5) | (code == 6) | (code == 31)
+}
+
+// The sets of the text as it is now.
+fn search_sets(mut b: Body) -> Body
+    ensures { λ r. ⌜ r ≡ setsSearched b ⌝ }
+{
+    let text = b.live.shown.text;
+    let sets = sets::search(text);
+    b.sets = sets;
+    b
+}
+
 // The body after the command that the low six type bits name. Whether the panel allows it is for the verdict to say.
 pub fn effect_of(b: Body, p: Packet) -> Body
     ensures { λ r. ⌜ Affects b p r ⌝ }
@@ -211,5 +229,9 @@ pub fn effect_of(b: Body, p: Packet) -> Body
     let code = p.kind % 64;
     let bytes = p.content;
     let n = lists::at_most(p.length, CONTENT);
-    body_after(b, code, &bytes[..n])
+    let after = body_after(b, code, &bytes[..n]);
+    if changes_text(code) {
+        return search_sets(after);
+    }
+    after
 }

@@ -58,7 +58,7 @@ module _ (p : Panel) (number : ℕ) (down : Bool) (reply : List ℕ) where
     key-in-range =
         let h = panel-parts p (passed .0) in
         let k = event-in-range number key-number (p .body .keys) (keys-parts _ (h .keys)) down in
-        panel-whole _ record { count = h .count; live = h .live; boot = h .boot; keys = keys-whole _ k; pins = h .pins }
+        panel-whole _ record { count = h .count; live = h .live; boot = h .boot; keys = keys-whole _ k; pins = h .pins; sets = h .sets }
 
   -- in a call that is not refused the event happened
   pub key-happened : (r : Said) (reply′ : List ℕ) → Presses p number down reply r reply′ → numbersOf (r .answer) .number < 10

@@ -1,5 +1,4 @@
 pub mod Compared
 pub mod Events
 pub mod KeyCalls
-pub mod Refusals
 pub mod Theorems

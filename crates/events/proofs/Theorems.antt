@@ -21,7 +21,7 @@ use Rattle.events.specs.Keys.{keyTests, keyAccepted, Presses}
 use Rattle.events.specs.Pins.{pinTests, pinAccepted, Moves}
 use Rattle.events.proofs.Events.{moved-in-range, press-follows, release-follows, others-stay}
 use Rattle.events.proofs.KeyCalls.{keyChecks, key-in-range, key-happened}
-use Rattle.events.proofs.Refusals.{refused-first}
+use Rattle.answers.proofs.Refusals.{refused-first}
 
 -- The numbers of a key call's checks rise, so that the first that fails is the lowest that applies.
 pub key-checks-rise : (inRange : Bool) (reply number : ℕ) (down : Bool) (keys : Keys) → Rising 0 (keyTests inRange reply number down keys)
@@ -73,7 +73,7 @@ module _ (p : Panel) (number : ℕ) (high : Bool) (r : Said) (moved : Moves p nu
   pin-stays-in-range h =
       let b = panel-parts p h in
       call-keeps p (pinTests (inRanges p) number) (pinAccepted p number high) r moved (λ (q : Panel). inRanges q ≡ true)
-      (λ q. panel-whole _ record { count = b .count; live = b .live; boot = b .boot; keys = b .keys; pins = pins-whole _ (moved-in-range number (omega (arith, leb-true number 4 (q .1 .0))) (p .body .pins) (pins-parts _ (b .pins)) _ high) })
+      (λ q. panel-whole _ record { count = b .count; live = b .live; boot = b .boot; keys = b .keys; pins = pins-whole _ (moved-in-range number (omega (arith, leb-true number 4 (q .1 .0))) (p .body .pins) (pins-parts _ (b .pins)) _ high); sets = b .sets })
       h
 
   -- A pin call that is refused by number leaves the panel as it came, and counts nothing.

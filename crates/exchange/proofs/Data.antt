@@ -116,7 +116,7 @@ module _ (p : Panel) (ranges : inRanges p ≡ true) (fits : PanelFits p) where
       by-code (λ (c : ℕ). verdictOf c d ≡ Allowed → canReply c (replyData c d (p .body)) ≡ true) code
       (λ _. refl)
       (λ _. refl)
-      (λ _. eq-eqb _ 16 (fits .1 .1 .1 .1 .1))
+      (λ _. eq-eqb _ 16 (fits .1 .1 .1 .1 .1 .0))
       (λ w. memory-can (getD d 0 0) (rw (← one-byte d (alone (lookUp 10 table) refl refl w)) w))
       (λ _. poll-can)
       (λ w. pin-can (getD d 0 0) (rw (← one-byte d (alone (lookUp 35 table) refl refl w)) w))

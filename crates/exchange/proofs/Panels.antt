@@ -1,14 +1,16 @@
--- Panels in their ranges: as at power-on, but for what they show, their wires, keys, pins and flash.
+-- Panels in their ranges: as at power-on, but for what they show and its sets, their wires, keys, pins and flash.
 use Prim.Native.Nat.{ℕ, _≤_}
-use mathlib.Core.Path.{_≡_, refl}
+use mathlib.Core.Path.{_≡_, refl, _∙_}
 use mathlib.Core.Bool.{true, and-eq-true-iff}
 use mathlib.Core.List.{List, [], _∷_, _++_}
 use native.Mathlib.Omega.{arith}
 use borrow.Author.Tests.{leb-true, ltb-true}
-use lib.ListN.{length}
+use lib.ListN.{length, length-map}
 use Rattle.lists.specs.Tests.{_<?_, _≤?_, all, allAtMost}
 use Rattle.packets.specs.Hold.{held}
 use Rattle.table.specs.Table.{configAllowed}
+use Rattle.sets.specs.Sets.{markOf, searched}
+use Rattle.sets.proofs.Laws.{mark-small, search-is}
 use Rattle.panel.specs.declared.Shown.{Shown}
 use Rattle.panel.specs.declared.Wires.{Wires}
 use Rattle.panel.specs.declared.Settings.{Settings}
@@ -41,7 +43,7 @@ abbrev pub panelWith : Own → Panel
 panelWith o =
     record {
       line = poweredOn .line;
-      body = record { live = settingsWith (o .shown) (o .wires); boot = factorySettings; keys = o .keys; pins = o .pins; flash = o .flash };
+      body = record { live = settingsWith (o .shown) (o .wires); boot = factorySettings; keys = o .keys; pins = o .pins; flash = o .flash; sets = searched (o .shown .text) };
     }
 
 -- in their ranges, and of their sizes
@@ -65,9 +67,9 @@ pub record Proper (o : Own) : Type 0 where
   pub flash-size : length (o .flash) ≡ flashSize
   pub flash : Bytes (o .flash)
 
--- the state's last part: keys, pins, flash
+-- the state's last part: keys, pins, flash, sets
 abbrev inputsShape : Shape
-inputsShape = bitsShape ▸ bitsShape ▸ run flashSize
+inputsShape = bitsShape ▸ bitsShape ▸ run flashSize ▸ run codeCount
 
 -- the bytes of a value are bytes; those of a shape behind a shape are if those of both are
 abbrev Small : (s : Shape) → Value s → Type 0
@@ -89,17 +91,25 @@ factory-in-range : settingsInRange factorySettings ≡ true
 unfolding factorySettings partsInRange all cursorInRange dialsInRange masksInRange allOf configAllowed
 factory-in-range = refl
 
+-- a cell's byte in the sets is one
+sets-small : (text : List ℕ) → EachByte (searched text)
+sets-small [] = tt
+sets-small (code ∷ text) = (omega (arith, mark-small code), sets-small text)
+
 module _ (o : Own) (proper : Proper o) where
+  abbrev sets : List ℕ
+  sets = searched (o .shown .text)
+
   live-in-range : settingsInRange (settingsWith (o .shown) (o .wires)) ≡ true
   unfolding factorySettings cursorInRange dialsInRange masksInRange allOf
   live-in-range = settings-whole (settingsWith (o .shown) (o .wires)) record { glyphs = proper .shown .glyphs; cursor = refl; dials = refl; masks = refl; levels = proper .wires .levels; configs = proper .wires .configs }
 
-  inputs-small : Small inputsShape (keysParts (o .keys) & pinsParts (o .pins) & o .flash)
+  inputs-small : Small inputsShape (keysParts (o .keys) & pinsParts (o .pins) & o .flash & sets)
   unfolding bytes
   inputs-small =
       let k = keys-parts (o .keys) (proper .keys) in
       let p = pins-parts (o .pins) (proper .pins) in
-      (omega (arith, k .down), (omega (arith, k .pressed), (omega (arith, k .released), (omega (arith, p .last), (omega (arith, p .fell), (omega (arith, p .rose), bytes-each (o .flash) (proper .flash)))))))
+      (omega (arith, k .down), (omega (arith, k .pressed), (omega (arith, k .released), (omega (arith, p .last), (omega (arith, p .fell), (omega (arith, p .rose), each-append (o .flash) sets (bytes-each (o .flash) (proper .flash)) (sets-small (o .shown .text))))))))
 
   live-small : Small settingsShape (settingsParts (settingsWith (o .shown) (o .wires)))
   unfolding bytes factorySettings configAllowed
@@ -114,7 +124,7 @@ module _ (o : Own) (proper : Proper o) where
 
   body-small : Small bodyShape (bodyParts (panelWith o .body))
   body-small =
-      let inputs = keysParts (o .keys) & pinsParts (o .pins) & o .flash in
+      let inputs = keysParts (o .keys) & pinsParts (o .pins) & o .flash & sets in
       let boot = settingsParts factorySettings in
       behind settingsShape (settingsShape ▸ inputsShape) (settingsParts (settingsWith (o .shown) (o .wires))) (boot & inputs) live-small
       (behind settingsShape inputsShape boot inputs factory-small inputs-small)
@@ -125,7 +135,7 @@ module _ (o : Own) (proper : Proper o) where
 
   ranges-with : inRanges (panelWith o) ≡ true
   unfolding poweredOn
-  ranges-with = panel-whole (panelWith o) record { count = omega arith; live = live-in-range; boot = factory-in-range; keys = proper .keys; pins = proper .pins }
+  ranges-with = panel-whole (panelWith o) record { count = omega arith; live = live-in-range; boot = factory-in-range; keys = proper .keys; pins = proper .pins; sets = search-is (o .shown .text) }
 
   fits-with : PanelFits (panelWith o)
   unfolding poweredOn
@@ -133,7 +143,7 @@ module _ (o : Own) (proper : Proper o) where
       let shown : Fits shownShape (shownParts (o .shown)) = (proper .shown .text-size, proper .shown .glyphs-size) in
       let wires : Fits wiresShape (wiresParts (o .wires)) = (proper .wires .levels-size, proper .wires .configs-size) in
       let boot = power-fits .1 .1 .0 in
-      (power-fits .0, ((shown, ((tt, tt), ((tt, (tt, tt)), ((tt, tt), wires)))), (boot, ((tt, (tt, tt)), ((tt, (tt, tt)), proper .flash-size)))))
+      (power-fits .0, ((shown, ((tt, tt), ((tt, (tt, tt)), ((tt, tt), wires)))), (boot, ((tt, (tt, tt)), ((tt, (tt, tt)), (proper .flash-size, length-map (o .shown .text) markOf ∙ proper .shown .text-size))))))
 
   -- Such a panel can be.
   pub possible-with : Possible (panelWith o)

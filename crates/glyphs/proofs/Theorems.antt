@@ -6,6 +6,7 @@ use lib.ListN.{length, getD}
 use Rattle.lists.specs.Promise.{Determined}
 use Rattle.lists.proofs.Theorems.{one}
 use Rattle.glyphs.specs.Glyphs.{nestedOf, flatOf, Reads8, Nests, SetsGlyph}
+use Rattle.glyphs.specs.Source.{TellsSpecial}
 use Rattle.glyphs.proofs.Flat.{nested-of-flat, flat-of-nested}
 
 -- The glyphs nested and flat are the same glyphs: either form, taken to the other and back, is as it was.
@@ -22,3 +23,6 @@ nested-determined flat = one _
 
 pub with-glyph-determined : (flat : List ℕ) (number : ℕ) (rows : List ℕ) → Determined (SetsGlyph flat number rows)
 with-glyph-determined flat number rows = one _
+
+pub is-special-determined : (code : ℕ) → Determined (TellsSpecial code)
+is-special-determined code = one _

@@ -1,1 +1,2 @@
 pub mod Glyphs
+pub mod Source

@@ -1,7 +1,8 @@
-// The eight special glyphs: an array of eight-byte arrays while they are set or drawn, flat in the state.
+// The eight special glyphs: an array of eight-byte arrays while they are set or drawn, flat in the state; and which codes draw them.
 ghost use mathlib.Core.Path.{_≡_};
 ghost use lib.ListN.{set};
 ghost use Rattle.glyphs.specs.Glyphs.{flatOf, Reads8, Nests, SetsGlyph};
+ghost use Rattle.glyphs.specs.Source.{TellsSpecial};
 
 // How many glyphs there are, the rows of each, and the bytes of all.
 pub const GLYPHS: usize = 8;
@@ -9,6 +10,16 @@ pub const GLYPHS: usize = 8;
 pub const ROWS: usize = 8;
 
 pub const FLAT: usize = GLYPHS * ROWS;
+
+// How many codes draw a special glyph, two each: a host whose strings end at 0 writes 8 for glyph 0 (document 02, order 2).
+const SPECIAL_CODES: u8 = 16;
+
+// Whether a code draws a special glyph; the others draw from the font.
+pub fn is_special(code: u8) -> bool
+    ensures { λ r. ⌜ TellsSpecial code r ⌝ }
+{
+    code < SPECIAL_CODES
+}
 
 // The eight bytes from an index on, zeros past the end.
 pub fn eight(bytes: &[u8], from: u16) -> [u8; ROWS]

@@ -7,7 +7,7 @@ use Rattle.lists.specs.Promise.{Determined}
 use Rattle.linecall.specs.Line.{Lent}
 use Rattle.linebytes.specs.Line.{LineBytes}
 use Rattle.linebytes.proofs.Theorems as bytes
-use Rattle.naupelys.specs.Calls.{PowerOnBytes, KeyBytes, PinBytes}
+use Rattle.naupelys.specs.Calls.{PowerOnBytes, KeyBytes, PinBytes, CellsBytes}
 
 pub naupelys-power-on-determined : (state picture font : List ℕ)
     → Determined (λ (x : ℕ × List ℕ × List ℕ × List ℕ). PowerOnBytes state picture font (x .0) (x .1) (x .2) (x .3))
@@ -25,3 +25,6 @@ naupelys-key-determined state key down reply x y e f =
 
 pub naupelys-pin-determined : (state : List ℕ) (pin : ℕ) (high : Bool) → Determined (λ (x : ℕ × List ℕ × List ℕ). PinBytes state pin high (x .0) (x .1) (x .2))
 naupelys-pin-determined state pin high x y e f = λ i. ((e .number ∙ sym (f .number)) i, (e .state ∙ sym (f .state)) i, (e .said ∙ sym (f .said)) i)
+
+pub naupelys-symbol-cells-determined : (state : List ℕ) (glyph : ℕ) (list : List ℕ) → Determined (λ (x : ℕ × List ℕ × List ℕ). CellsBytes state glyph list (x .0) (x .1) (x .2))
+naupelys-symbol-cells-determined state glyph list x y e f = λ i. ((e .number ∙ sym (f .number)) i, (e .cells ∙ sym (f .cells)) i, (e .said ∙ sym (f .said)) i)

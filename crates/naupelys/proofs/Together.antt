@@ -60,16 +60,27 @@ module _ (state : List ℕ) where
   unfolding stateWith stateAfter
   kept s h = kept-by (isState state) state s h
 
+  -- what it returns and says
+  pub told-on : {panel : Panel} → panel ≡ panelIn state → (saidOn : Panel → Said) → saidOn none ≡ refusedCall none StateRange → (s : Said) → s ≡ saidOn panel
+      → {number : ℕ} {said′ : List ℕ} → Told s number said′ → (number ≡ onState state 10 (λ (p : Panel). numberOf (saidOn p))) × (said′ ≡ onState state noState (λ (p : Panel). bytesSaid (saidOn p)))
+  unfolding numbersOf checkNumber
+  told-on is saidOn out s q e =
+      let said : s ≡ saidOn (panelIn state) = q ∙ ap saidOn is in (
+        e .0 ∙ ap numberOf said ∙ on 10 (λ (p : Panel). numberOf (saidOn p)) (ap numberOf out),
+        e .1 ∙ ap bytesSaid said ∙ on noState (λ (p : Panel). bytesSaid (saidOn p)) (ap bytesSaid out),
+      )
+
   pub called : {panel : Panel} → panel ≡ panelIn state → (saidOn : Panel → Said) → saidOn none ≡ refusedCall none StateRange → (s : Said) → s ≡ saidOn panel
       → {number : ℕ} {state′ said′ : List ℕ} → EndsCall state s number state′ said′ → OnBytes saidOn state number state′ said′
   unfolding panelIn stateAfter numbersOf checkNumber when_then_else_
   called is saidOn out s q e =
       let said : s ≡ saidOn (panelIn state) = q ∙ ap saidOn is in
       let ten : isState state ≡ false → numberOf s <? 10 ≡ false = λ no. ap (λ (s : Said). numberOf s <? 10) (said ∙ ap saidOn (when-false _ _ _ no) ∙ out) in
+      let told = told-on is saidOn out s q (e .0, e .2) in
       record {
-        number = e .0 ∙ ap numberOf said ∙ on 10 (λ (p : Panel). numberOf (saidOn p)) (ap numberOf out);
+        number = told .0;
         state = e .1 ∙ kept s ten ∙ ap (stateAfter state) said ∙ on state (λ (p : Panel). stateAfter state (saidOn p)) (ap (stateAfter state) out);
-        said = e .2 ∙ ap bytesSaid said ∙ on noState (λ (p : Panel). bytesSaid (saidOn p)) (ap bytesSaid out);
+        said = told .1;
       }
 
 -- power-on returns the power-on state, refused or not

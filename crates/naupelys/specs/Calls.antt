@@ -1,4 +1,4 @@
--- What power-on, key and pin over lent bytes promise of the number that they return and of each byte lent to them; what the
+-- What power-on, key, pin and symbol cells over lent bytes promise of the number that they return and of each byte lent to them; what the
 -- line call promises is `LineBytes` of linebytes.
 use Prim.Native.Nat.{ℕ, _+_}
 use mathlib.Core.Path.{_≡_}
@@ -12,6 +12,7 @@ use Rattle.answers.specs.declared.Said.{Said}
 use Rattle.power.specs.Power.{powerSaid, powerPicture}
 use Rattle.events.specs.Keys.{keySaid, keyReply}
 use Rattle.events.specs.Pins.{pinSaid}
+use Rattle.symbols.specs.Symbols.{cellsSaid, cellsList}
 use Rattle.statebytes.specs.State.{bytesOf, panelOf, isState, onState, stateWith}
 use Rattle.saidbytes.specs.Says.{numberOf, bytesSaid, noState}
 use Rattle.linebytes.specs.Line.{stateAfter}
@@ -44,6 +45,12 @@ KeyBytes s key down r n s′ r′ said′ = OnBytes (λ p. keySaid p key down r)
 -- what `naupelys_pin` promises
 abbrev pub PinBytes : List ℕ → ℕ → Bool → ℕ → List ℕ → List ℕ → Type 0
 PinBytes s pin high = OnBytes (λ p. pinSaid p pin high) s
+
+-- what `naupelys_symbol_cells` promises; the state is only lent to be read
+pub record CellsBytes (s : List ℕ) (glyph : ℕ) (list : List ℕ) (n : ℕ) (list′ said′ : List ℕ) : Type 0 where
+  pub number : n ≡ onState s 10 (λ p. numberOf (cellsSaid p glyph list))
+  pub cells : list′ ≡ onState s list (λ p. cellsList p glyph list)
+  pub said : said′ ≡ onState s noState (λ p. bytesSaid (cellsSaid p glyph list))
 
 -- what `told` promises: the number that it returns and the 16 bytes
 abbrev pub Told : Said → ℕ → List ℕ → Type 0

@@ -1,9 +1,9 @@
-// The panel for a C caller: the four calls of include/naupelys.h over lent bytes.
+// The panel for a C caller: the five calls of include/naupelys.h over lent bytes.
 ghost use mathlib.Core.Path.{_≡_};
 ghost use lib.ListN.{length};
 ghost use Rattle.linecall.specs.Line.{lent};
 ghost use Rattle.linebytes.specs.Line.{recordsIn, LineBytes};
-ghost use Rattle.naupelys.specs.Calls.{panelIn, Told, EndsCall, PowerOnBytes, KeyBytes, PinBytes};
+ghost use Rattle.naupelys.specs.Calls.{panelIn, Told, EndsCall, PowerOnBytes, KeyBytes, PinBytes, CellsBytes};
 use answers::Check;
 use answers::Said;
 use packets::HELD;
@@ -106,4 +106,18 @@ pub extern "C" fn naupelys_pin(state: &mut [u8], pin: u32, high: bool, said: &mu
 {
     let s = events::pins::pin(panel_in(state), pin, high);
     ended(state, s, said)
+}
+
+// The cells that a glyph is on. The state is only read.
+#[no_mangle]
+pub extern "C" fn naupelys_symbol_cells(
+    state: &[u8],
+    glyph: u32,
+    list: &mut [u8],
+    said: &mut [u8; SAID],
+) -> u8
+    ensures { λ r. ⌜ CellsBytes (now (state .entry)) glyph (now (list .entry)) r (now (list .exit)) (now (said .exit)) ⌝ }
+{
+    let s = symbols::cells(panel_in(state), glyph, list);
+    told(said, s)
 }

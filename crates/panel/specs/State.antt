@@ -1,10 +1,11 @@
 -- How the panel starts; dials, a body, a panel and its line with another part.
 use Prim.Native.Nat.{ℕ}
 use mathlib.Core.Path.{_≡_}
-use mathlib.Core.List.{[], _∷_}
+use mathlib.Core.List.{List, [], _∷_}
 use lib.ListN.{replicate}
 use Rattle.packets.specs.declared.Hold.{Hold}
 use Rattle.packets.specs.Hold.{holdOf}
+use Rattle.sets.specs.Sets.{searched}
 use Rattle.panel.specs.declared.Line.{Line}
 use Rattle.panel.specs.declared.Dials.{Dials}
 use Rattle.panel.specs.declared.Settings.{Settings}
@@ -47,12 +48,21 @@ noKeys = record { down = 0; pressed = 0; released = 0 }
 abbrev pub lowPins : Pins
 lowPins = record { last = 0; fell = 0; rose = 0 }
 
--- "At power-on flash is zeros, keys up, pins low, poll bytes and edges clear, nothing held, unfiled 0."
+-- "At power-on flash is zeros, keys up, pins low, poll bytes and edges clear, nothing held, unfiled 0." The sets are what a search
+-- of the text finds (document 02, order 4).
 unfoldable pub poweredOn : Panel
 poweredOn =
     record {
       line = record { hold = holdOf []; unfiled = 0 };
-      body = record { live = factorySettings; boot = factorySettings; keys = noKeys; pins = lowPins; flash = replicate flashSize 0 };
+      body =
+          record {
+            live = factorySettings;
+            boot = factorySettings;
+            keys = noKeys;
+            pins = lowPins;
+            flash = replicate flashSize 0;
+            sets = searched (factorySettings .shown .text);
+          };
     }
 
 -- what `powered_on` promises
@@ -71,13 +81,16 @@ withBacklight d backlight = record { style = d .style; contrast = d .contrast; b
 
 -- a body and a panel with another part
 abbrev pub withLive : Body → Settings → Body
-withLive b s = record { live = s; boot = b .boot; keys = b .keys; pins = b .pins; flash = b .flash }
+withLive b s = record { live = s; boot = b .boot; keys = b .keys; pins = b .pins; flash = b .flash; sets = b .sets }
+
+abbrev pub withSets : Body → List ℕ → Body
+withSets b sets = record { live = b .live; boot = b .boot; keys = b .keys; pins = b .pins; flash = b .flash; sets = sets }
 
 abbrev pub withKeys : Body → Keys → Body
-withKeys b k = record { live = b .live; boot = b .boot; keys = k; pins = b .pins; flash = b .flash }
+withKeys b k = record { live = b .live; boot = b .boot; keys = k; pins = b .pins; flash = b .flash; sets = b .sets }
 
 abbrev pub withPins : Body → Pins → Body
-withPins b p = record { live = b .live; boot = b .boot; keys = b .keys; pins = p; flash = b .flash }
+withPins b p = record { live = b .live; boot = b .boot; keys = b .keys; pins = p; flash = b .flash; sets = b .sets }
 
 abbrev pub withBody : Panel → Body → Panel
 withBody p b = record { line = p .line; body = b }

@@ -4,7 +4,7 @@ ghost use Rattle.panel.specs.State.{factorySettings, Starts};
 use packets::Hold;
 
 // How many codes are shown, rows the glyphs have, pins there are and pins with an input, and bytes the flash has.
-pub const CODES: usize = 80;
+pub const CODES: usize = sets::CELLS;
 
 pub const GLYPH_ROWS: usize = 64;
 
@@ -72,13 +72,14 @@ pub struct Pins {
     pub rose: u8,
 }
 
-// All that a command reads or changes.
+// All that a command reads or changes. The sets are those of the live text: which cells draw each special glyph.
 pub struct Body {
     pub live: Settings,
     pub boot: Settings,
     pub keys: Keys,
     pub pins: Pins,
     pub flash: [u8; FLASH_BYTES],
+    pub sets: [u8; CODES],
 }
 
 pub struct Panel {
@@ -117,7 +118,7 @@ fn factory() -> Settings
     }
 }
 
-// The state at power-on.
+// The state at power-on. No space draws a special glyph, so that no cell is in a set.
 pub fn powered_on() -> Panel
     ensures { λ r. ⌜ Starts r ⌝ }
 {
@@ -138,6 +139,7 @@ pub fn powered_on() -> Panel
         keys,
         pins,
         flash: [0u8; FLASH_BYTES],
+        sets: [0u8; CODES],
     };
     let hold = packets::empty();
     let line = Line { hold, unfiled: 0 };

@@ -36,7 +36,8 @@ pub fn perform(
     let written = reply_with(answer, reply);
     let was = body.live.shown;
     let is = after.live.shown;
-    let listed = picture::repaint::repaint(picture, list, was, is, font);
+    let sets = after.sets;
+    let listed = picture::repaint::repaint(picture, list, was, is, sets, font);
     Performed {
         body: after,
         reply: written,

@@ -2,20 +2,22 @@
 use Prim.Native.Nat.{ℕ, zero, suc, _+_, _<_, _≤_}
 use mathlib.Core.Path.{_≡_, refl, sym, _∙_, ap}
 use mathlib.Core.Logic.{_≢_, _↔_, dite}
-use mathlib.Core.Bool.{Bool, true, false, _&&_, false≢true}
-use mathlib.Core.List.{List, [], _∷_, _++_}
+use mathlib.Core.Bool.{Bool, true, false, not, _&&_, false≢true}
+use mathlib.Core.List.{List, []}
 use native.Mathlib.Numerals.{add-one}
 use native.Mathlib.Omega.{arith}
 use native.Mathlib.Decide.{decLt, ℕ-discrete}
-use borrow.Author.Tests.{eqb-true, eq-eqb}
+use borrow.Author.Tests.{eqb-true, eq-eqb, not-true}
 use lib.Dec.{eqb}
-use lib.ListN.{length, getD, length-append, List·getD-append}
-use lib.Seq.{getD-append-seam, ext-getD}
+use lib.ListN.{length, getD}
+use lib.Seq.{ext-getD}
 use Rattle.lists.specs.Tests.{when_then_else_}
+use Rattle.lists.specs.Rising.{ListedIn}
 use Rattle.lists.proofs.Laws.{when-true, when-false}
+use Rattle.lists.proofs.Rising.{Exact, passing-rises, passing-short, passing-none}
 use Rattle.picture.specs.Draw.{Screen, cellDrawn, placeOf, paint, drawn}
-use Rattle.picture.specs.Repaint.{alike, same, changedBelow, changed, painted, ListedIn}
-use Rattle.picture.proofs.Paints.{either, length-paint, paint-at, by-cell, length-cell, length-drawn, drawn-at}
+use Rattle.picture.specs.Repaint.{alike, same, otherwise, changed, painted}
+use Rattle.picture.proofs.Paints.{length-paint, paint-at, by-cell, length-cell, length-drawn, drawn-at}
 
 -- Bytes that are alike up to n are the same there, and a list is like itself.
 pub both : (a b : Bool) → (a && b) ≡ true → (a ≡ true) × (b ≡ true)
@@ -62,55 +64,17 @@ module _ (before after : Screen) (font : List ℕ) where
       rw (painted-at (drawn before font) c k (length-drawn before font) h g, drawn-at before font c k h g, drawn-at after font c k h g)
       (kept-or-new c k g (same before after font c) refl))
 
--- A list of the cells below n that draw otherwise: rising, nothing else in it, none missing.
-pub record ChangeList (before after : Screen) (font : List ℕ) (n : ℕ) (l : List ℕ) : Type 0 where
-  pub rising : (i j : ℕ) → i < j → j < length l → getD l i 0 < getD l j 0
-  pub inside : (i : ℕ) → i < length l → getD l i 0 < n
-  pub differs : (i : ℕ) → i < length l → same before after font (getD l i 0) ≡ false
-  pub whole : (c : ℕ) → c < n → same before after font c ≡ false → ListedIn l (length l) c
-
 -- a cell is one of those that the change list holds
 abbrev pub Listed : Screen → Screen → List ℕ → ℕ → Type 0
 Listed before after font = ListedIn (changed before after font) (length (changed before after font))
 
--- what holds of each entry and of one more
-snoc-all : (P : ℕ → Type 0) (l : List ℕ) (a : ℕ) → ((i : ℕ) → i < length l → P (getD l i 0)) → P a → (i : ℕ) → i < length (l ++ a ∷ []) → P (getD (l ++ a ∷ []) i 0)
-snoc-all P l a h k i g =
-    let e = length-append l (a ∷ []) in
-    dite (decLt i (length l))
-    (λ q. rw (List·getD-append l (a ∷ []) 0 i q) (h i q))
-    (λ q. let z : i ≡ length l = omega arith in rw (z, getD-append-seam l a [] 0) k)
-
 module _ (before after : Screen) (font : List ℕ) where
-  more : (n : ℕ) (l : List ℕ) (b : Bool) → same before after font n ≡ b → ChangeList before after font n l
-      → ChangeList before after font (suc n) (when b then l else l ++ n ∷ [])
-  unfolding when_then_else_
-  more n l true t w = record {
-    rising = w .rising;
-    inside = λ i h. omega (arith, w .inside i h);
-    differs = w .differs;
-    whole = λ c h g. w .whole c (dite (ℕ-discrete c n) (λ q. absurd (false≢true (sym g ∙ ap (same before after font) q ∙ t))) (λ q. omega arith)) g;
-  }
-  more n l false t w = record {
-    rising = λ i j h g. let e = length-append l (n ∷ []) in let r : i < length l = omega arith in rw (List·getD-append l (n ∷ []) 0 i r) (
-        dite (decLt j (length l))
-        (λ q. rw (List·getD-append l (n ∷ []) 0 j q) (w .rising i j h q))
-        (λ q. let z : j ≡ length l = omega arith in rw (z, getD-append-seam l n [] 0) (w .inside i r)));
-    inside = snoc-all (λ (x : ℕ). x < suc n) l n (λ i h. omega (arith, w .inside i h)) (omega arith);
-    differs = snoc-all (λ (x : ℕ). same before after font x ≡ false) l n (w .differs) t;
-    whole = λ c h g. dite (ℕ-discrete c n)
-        (λ q. (length l, omega (arith, length-append l (n ∷ [])), getD-append-seam l n [] 0 ∙ sym q))
-        (λ q. let o = w .whole c (omega arith) g in (o .0, omega (arith, length-append l (n ∷ [])), List·getD-append l (n ∷ []) 0 (o .0) (o .1) ∙ o .2));
-  }
-
-  -- The list of the cells below n that draw otherwise is rising and holds exactly those.
-  pub changes-listed : (n : ℕ) → ChangeList before after font n (changedBelow before after font n)
-  unfolding changedBelow
-  changes-listed zero = record { rising = λ i j h g. absurd (omega arith); inside = λ i h. absurd (omega arith); differs = λ i h. absurd (omega arith); whole = λ c h g. absurd (omega arith) }
-  changes-listed (suc n) = more n (changedBelow before after font n) (same before after font n) refl (changes-listed n)
+  -- the change list is rising and holds exactly the cells that draw otherwise
+  changes-listed : Exact (otherwise before after font) 80 (changed before after font)
+  changes-listed = passing-rises (otherwise before after font) 80
 
   listed-other : (c : ℕ) → Listed before after font c → same before after font c ≡ false
-  listed-other c o = rw (o .2) at (changes-listed 80 .differs (o .0) (o .1))
+  listed-other c o = not-true _ (rw (o .2) at (changes-listed .passes (o .0) (o .1)))
 
   same-drawing : (c : ℕ) → same before after font c ≡ true → cellDrawn before font c ≡ cellDrawn after font c
   unfolding same
@@ -122,7 +86,7 @@ module _ (before after : Screen) (font : List ℕ) where
 
   -- The change list rises.
   pub listed-rises : (i j : ℕ) → i < j → j < length (changed before after font) → getD (changed before after font) i 0 < getD (changed before after font) j 0
-  listed-rises = changes-listed 80 .rising
+  listed-rises = changes-listed .rises
 
   -- A cell stands in the change list once.
   pub listed-once : (i j : ℕ) → i < length (changed before after font) → j < length (changed before after font) → getD (changed before after font) i 0 ≡ getD (changed before after font) j 0 → i ≡ j
@@ -132,7 +96,7 @@ module _ (before after : Screen) (font : List ℕ) where
 
   -- Every listed cell is one of the 80.
   pub listed-inside : (c : ℕ) → Listed before after font c → c < 80
-  listed-inside c o = rw (o .2) at (changes-listed 80 .inside (o .0) (o .1))
+  listed-inside c o = rw (o .2) at (changes-listed .inside (o .0) (o .1))
 
   -- A cell is listed if and only if its eight bytes differ.
   pub listed-differs : (c : ℕ) → c < 80 → Listed before after font c ↔ (cellDrawn before font c ≢ cellDrawn after font c)
@@ -140,7 +104,7 @@ module _ (before after : Screen) (font : List ℕ) where
     where
       find : (b : Bool) → same before after font c ≡ b → cellDrawn before font c ≢ cellDrawn after font c → Listed before after font c
       find true e n = absurd (n (same-drawing c e))
-      find false e n = changes-listed 80 .whole c h e
+      find false e n = changes-listed .whole c h (ap not e)
 
   -- All eight bytes of a listed cell are what it draws, whatever the picture held.
   pub listed-drawn : (p : List ℕ) (c k : ℕ) → length p ≡ 640 → k < 8 → Listed before after font c → getD (painted before after font p) (placeOf c k) 0 ≡ getD (cellDrawn after font c) k 0
@@ -152,27 +116,17 @@ module _ (before after : Screen) (font : List ℕ) where
     where
       kept : (b : Bool) → same before after font c ≡ b → same before after font c ≡ true
       kept true t = t
-      kept false t = absurd (n (changes-listed 80 .whole c h t))
+      kept false t = absurd (n (changes-listed .whole c h (ap not t)))
 
-  -- The list is never longer than the cells looked at.
-  pub changed-short : (n : ℕ) → length (changedBelow before after font n) ≤ n
-  unfolding changedBelow
-  changed-short zero = omega arith
-  changed-short (suc n) =
-      let ih = changed-short n in
-      either (λ (l : List ℕ). length l ≤ suc n) (same before after font n) _ _ (omega arith)
-      (omega (arith, length-append (changedBelow before after font n) (n ∷ [])))
+  -- The list is never longer than there are cells.
+  pub changed-short : length (changed before after font) ≤ 80
+  changed-short = passing-short (otherwise before after font) 80
 
 -- A screen that stays draws as it did.
 module _ (s : Screen) (font : List ℕ) where
   drawn-same : (c : ℕ) → same s s font c ≡ true
   unfolding same
   drawn-same c = alike-self 8 (cellDrawn s font c)
-
-  none-changed : (n : ℕ) → changedBelow s s font n ≡ []
-  unfolding changedBelow
-  none-changed zero = refl
-  none-changed (suc n) = when-true _ _ _ (drawn-same n) ∙ none-changed n
 
   none-painted : (picture : List ℕ) (n : ℕ) → paint (same s s font) (cellDrawn s font) picture n ≡ picture
   unfolding paint
@@ -181,7 +135,7 @@ module _ (s : Screen) (font : List ℕ) where
 
   -- Nothing changes where the screen is the same.
   pub changed-same : changed s s font ≡ []
-  changed-same = none-changed 80
+  changed-same = passing-none (otherwise s s font) 80 (λ cell. ap not (drawn-same cell))
 
   -- Any picture stays where the screen is the same.
   pub painted-same : (picture : List ℕ) → painted s s font picture ≡ picture

@@ -1,16 +1,19 @@
 -- What a code draws, source by source, and when two drawings are alike.
-use Prim.Native.Nat.{ℕ, zero, suc, _+_, _*_, _%_}
+use Prim.Native.Nat.{ℕ, zero, suc, _+_, _-_, _*_, _%_}
 use mathlib.Core.Path.{_≡_, refl}
 use mathlib.Core.Bool.{Bool, true, false, not, _&&_, _||_}
 use mathlib.Core.List.{List, []}
 use native.Mathlib.Numerals.{add-one}
+use native.Mathlib.Omega.{arith}
 use borrow.Author.Tests.{eqb-true, not-true}
 use lib.ListN.{getD, set, replicate}
 use Rattle.lists.specs.Tests.{_=?_}
 use Rattle.lists.proofs.Laws.{when-true, when-false}
 use Rattle.glyphs.specs.Glyphs.{eightFrom}
-use Rattle.picture.specs.Draw.{isSpecial, sourceOf, drawnFrom, lowSix, codeDrawn}
-use Rattle.picture.specs.Repaint.{alike}
+use Rattle.glyphs.specs.Source.{Source, special, font, isSpecial, sourceOf}
+use Rattle.sets.specs.Sets.{markFor, markOf}
+use Rattle.picture.specs.Draw.{drawnFrom, lowSix, codeDrawn}
+use Rattle.picture.specs.Repaint.{alike, glyphStays}
 use Rattle.picture.proofs.Changes.{both, alike-self}
 
 module _ (glyphs : List (List ℕ)) (bytes : List ℕ) (code : ℕ) where
@@ -32,6 +35,21 @@ stays-alike before after bytes a b false k h =
     let t = both (a =? b) (not (isSpecial b)) h in
     let g = not-true (isSpecial b) (t .1) in
     rw (eqb-true a b (t .0), drawn-font before bytes b g, drawn-font after bytes b g) (alike-self 8 (lowSix (eightFrom bytes (8 * b))))
+
+-- the glyph that a cell's byte names
+pub stays-named : (mark : ℕ) (before after : List (List ℕ)) → (mark ≡ 0 → ⊥) → glyphStays mark before after ≡ alike 8 (getD before (mark - 1) []) (getD after (mark - 1) [])
+unfolding glyphStays
+stays-named zero before after n = absurd (n refl)
+stays-named (suc glyph) before after n = let e : suc glyph - 1 ≡ glyph = omega arith in rw e refl
+
+-- a code whose glyph is as before, or that has none, draws as it did
+pub mark-alike : (before after : List (List ℕ)) (bytes : List ℕ) (code : ℕ) → glyphStays (markOf code) before after ≡ true → alike 8 (codeDrawn before bytes code) (codeDrawn after bytes code) ≡ true
+unfolding codeDrawn markFor drawnFrom glyphStays
+mark-alike before after bytes code h = go (sourceOf code) h
+  where
+    go : (s : Source) → glyphStays (markFor s) before after ≡ true → alike 8 (drawnFrom s before bytes) (drawnFrom s after bytes) ≡ true
+    go (special number) h = rw add-one at h
+    go (font c) h = alike-self 8 (lowSix (eightFrom bytes (8 * c)))
 
 -- the low six bits of the first n of eight rows, zeros behind
 unfoldable pub lowFirst : ℕ → List ℕ → List ℕ

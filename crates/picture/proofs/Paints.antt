@@ -10,7 +10,8 @@ use lib.ListN.{length, getD, replicate, length-set, length-replicate}
 use lib.Seq.{getD-set-same, getD-set-other, ext-getD}
 use Rattle.lists.specs.Tests.{when_then_else_}
 use Rattle.lists.proofs.Laws.{when-either}
-use Rattle.picture.specs.Draw.{Screen, Source, special, font, sourceOf, drawnFrom, codeDrawn, cellDrawn, placeOf, put, paint, drawn}
+use Rattle.glyphs.specs.Source.{Source, special, font, sourceOf}
+use Rattle.picture.specs.Draw.{Screen, drawnFrom, codeDrawn, cellDrawn, placeOf, put, paint, drawn}
 use Rattle.picture.proofs.Places.{cellAt, lineAt, place-inside, cell-of-place, line-of-place, cell-inside, line-inside, place-of-both}
 
 -- what holds of both choices holds of the one picked, whatever the test

@@ -13,7 +13,8 @@ use Rattle.lists.proofs.Laws.{when-true}
 use Rattle.glyphs.specs.Glyphs.{eightFrom, nestedOf, glyphsWith}
 use Rattle.glyphs.proofs.Every.{Every, every-set}
 use Rattle.glyphs.proofs.Flat.{nested-of-flat}
-use Rattle.picture.specs.Draw.{special, isSpecial, sourceOf, codeDrawn}
+use Rattle.glyphs.specs.Source.{special, isSpecial, sourceOf}
+use Rattle.picture.specs.Draw.{codeDrawn}
 use Rattle.picture.proofs.Codes.{drawn-special, drawn-font}
 
 -- codes eight apart have the same source

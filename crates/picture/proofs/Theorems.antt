@@ -10,7 +10,8 @@ use Rattle.lists.proofs.Theorems.{one}
 use Rattle.glyphs.specs.Glyphs.{nestedOf, glyphsWith}
 use Rattle.glyphs.proofs.Flat.{eight-whole}
 use Rattle.panel.specs.declared.Shown.{Shown}
-use Rattle.picture.specs.Draw.{Screen, screen, screenOf, Source, drawnFrom, codeDrawn}
+use Rattle.glyphs.specs.Source.{Source}
+use Rattle.picture.specs.Draw.{Screen, screen, screenOf, drawnFrom, codeDrawn}
 use Rattle.picture.specs.Repaint.{paintable, RepaintsSized, DrawsAll}
 use Rattle.picture.proofs.Changes.{Listed, listed-differs}
 use Rattle.picture.proofs.Sizes.{sized-or-left}

@@ -1,16 +1,16 @@
 -- One turn of the loops that paint and list.
 use mathlib.Core.Path.{_≡_, refl, sym, _∙_, ap}
-use mathlib.Core.Bool.{Bool, true, false}
-use mathlib.Core.List.{List, [], _∷_, _++_}
+use mathlib.Core.Bool.{Bool, true, false, not}
+use mathlib.Core.List.{List}
 use Prim.Native.Nat.{ℕ, _+_, _*_, _<_, _≤_}
 use native.Mathlib.Numerals.{add-one}
 use native.Mathlib.Omega.{arith}
-use lib.ListN.{length, getD, set, length-set, length-append}
+use lib.ListN.{length, getD, set}
 use Rattle.lists.specs.Tests.{when_then_else_}
-use Rattle.lists.specs.Runs.{front}
-use Rattle.lists.proofs.Laws.{when-true, when-false, front-more}
+use Rattle.lists.proofs.Laws.{when-true, when-false}
+use Rattle.lists.proofs.Rising.{Listing, listing-first, listing-over, listing-one}
 use Rattle.picture.specs.Draw.{Screen, screen, cellDrawn, placeOf, put, paint}
-use Rattle.picture.specs.Repaint.{alike, same, changedBelow, painted, RepaintsCell, Repaints}
+use Rattle.picture.specs.Repaint.{alike, same, otherwise, painted, RepaintsCell, Repaints}
 use Rattle.picture.proofs.Changes.{changed-same, painted-same}
 use Rattle.picture.proofs.Paints.{length-put}
 
@@ -28,19 +28,6 @@ module _ (keep : ℕ → Bool) (g : ℕ → List ℕ) (p : List ℕ) (n : ℕ) w
   unfolding paint when_then_else_
   paint-put h = rw (add-one, h)
 
-module _ (before after : Screen) (font : List ℕ) (n : ℕ) where
-  pub same-is : same before after font n ≡ alike 8 (cellDrawn before font n) (cellDrawn after font n)
-  unfolding same
-  same-is = refl
-
-  pub unlisted : same before after font n ≡ true → changedBelow before after font (n + 1) ≡ changedBelow before after font n
-  unfolding changedBelow when_then_else_
-  unlisted h = rw (add-one, h)
-
-  pub listed : same before after font n ≡ false → changedBelow before after font (n + 1) ≡ changedBelow before after font n ++ n ∷ []
-  unfolding changedBelow when_then_else_
-  listed h = rw (add-one, h)
-
 -- one cell repainted: left where its bytes are alike, else written
 module _ (cell : ℕ) (was bytes picture was′ bytes′ : List ℕ) (r : Bool) (p : was′ ≡ was) (q : bytes′ ≡ bytes) (e : r ≡ alike 8 was′ bytes′) where
   pub cell-left : r ≡ true → RepaintsCell cell was bytes picture true picture
@@ -54,49 +41,45 @@ module _ (cell : ℕ) (was bytes picture was′ bytes′ : List ℕ) (r : Bool) 
 -- what the loop of the repaint has reached before cell n
 abbrev pub Reached : Screen → Screen → List ℕ → List ℕ → List ℕ → ℕ → List ℕ → List ℕ → ℕ → Type 0
 Reached before after font picture₀ list₀ n picture list count =
-    (n ≤ 80) × (count ≡ length (changedBelow before after font n)) × (count ≤ n)
-    × (picture ≡ paint (same before after font) (cellDrawn after font) picture₀ n)
-    × (list ≡ front (changedBelow before after font n) list₀) × (length picture ≡ 640) × (length list ≡ 80)
+    (n ≤ 80) × (length picture ≡ 640) × (length list₀ ≡ 80) × (picture ≡ paint (same before after font) (cellDrawn after font) picture₀ n)
+    × Listing (otherwise before after font) list₀ n list count
 
 module _ (before after : Screen) (font picture₀ list₀ : List ℕ) where
   pub reached-first : length picture₀ ≡ 640 → length list₀ ≡ 80 → Reached before after font picture₀ list₀ 0 picture₀ list₀ 0
-  unfolding paint changedBelow
-  reached-first h g = (omega arith, refl, omega arith, refl, refl, h, g)
+  unfolding paint
+  reached-first h g = (omega arith, h, g, refl, listing-first (otherwise before after font) list₀)
 
   pub reached-all : (n : ℕ) (picture list : List ℕ) (count : ℕ) → 80 ≤ n → Reached before after font picture₀ list₀ n picture list count → Repaints before after font picture₀ list₀ count picture list
   unfolding painted
-  reached-all n picture list count h w = let e : n ≡ 80 = omega arith in (rw e at (w .1), rw e at (w .3), rw e at (w .4))
+  reached-all n picture list count h w = let e : n ≡ 80 = omega arith in (rw e at (w .4 .0), rw e at (w .3), rw e at (w .4 .2))
 
   module _ (n : ℕ) (picture list : List ℕ) (count : ℕ) (picture′ : List ℕ) (r : Bool) (h : n < 80)
       (m : RepaintsCell n (cellDrawn before font n) (cellDrawn after font n) picture r picture′)
       (w : Reached before after font picture₀ list₀ n picture list count) where
+    decides : same before after font n ≡ r
+    unfolding same
+    decides = sym (m .0)
+
     pub reached-left : r ≡ true → Reached before after font picture₀ list₀ (n + 1) picture′ list count
     reached-left t =
-        let e : same before after font n ≡ true = same-is before after font n ∙ sym (m .0) ∙ t in
-        let u = sym (unlisted before after font n e) in
+        let e : same before after font n ≡ true = decides ∙ t in
         let p : picture′ ≡ picture = m .1 ∙ when-true _ _ _ t in (
           omega arith,
-          w .1 ∙ ap length u,
-          omega (arith, w .2),
+          ap length p ∙ w .1,
+          w .2,
           p ∙ w .3 ∙ sym (paint-kept (same before after font) (cellDrawn after font) picture₀ n e),
-          w .4 ∙ ap (λ (l : List ℕ). front l list₀) u,
-          ap length p ∙ w .5,
-          w .6,
+          listing-over (otherwise before after font) list₀ n list count (w .4) (ap not e),
         )
 
-    pub reached-listed : length list₀ ≡ 80 → r ≡ false → Reached before after font picture₀ list₀ (n + 1) picture′ (set list count n) (count + 1)
-    reached-listed g t =
-        let e : same before after font n ≡ false = same-is before after font n ∙ sym (m .0) ∙ t in
-        let cells = changedBelow before after font n in
-        let u = sym (listed before after font n e) in
+    pub reached-listed : r ≡ false → Reached before after font picture₀ list₀ (n + 1) picture′ (set list count n) (count + 1)
+    reached-listed t =
+        let e : same before after font n ≡ false = decides ∙ t in
         let p : picture′ ≡ put n (cellDrawn after font n) picture 8 = m .1 ∙ when-false _ _ _ t in (
           omega arith,
-          omega (arith, w .1, ap length u, length-append cells (n ∷ [])),
-          omega (arith, w .2),
+          ap length p ∙ length-put n (cellDrawn after font n) picture 8 ∙ w .1,
+          w .2,
           p ∙ ap (λ (l : List ℕ). put n (cellDrawn after font n) l 8) (w .3) ∙ sym (paint-put (same before after font) (cellDrawn after font) picture₀ n e),
-          ap (λ (l : List ℕ). set l count n) (w .4) ∙ front-more cells list₀ count n (w .1) (omega (arith, w .2)) ∙ ap (λ (l : List ℕ). front l list₀) u,
-          ap length p ∙ length-put n (cellDrawn after font n) picture 8 ∙ w .5,
-          length-set list count n ∙ w .6,
+          listing-one (otherwise before after font) list₀ n list count (w .4) (omega (arith, w .2)) (ap not e),
         )
 
 -- one cell drawn more

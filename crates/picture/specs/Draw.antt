@@ -3,10 +3,11 @@ use Prim.Native.Nat.{ℕ, zero, suc, _+_, _*_, _%_}
 use mathlib.Core.Bool.{Bool, false}
 use mathlib.Core.List.{List, [], _∷_}
 use lib.ListN.{getD, set, replicate}
-use Rattle.lists.specs.Tests.{when_then_else_, _<?_}
+use Rattle.lists.specs.Tests.{when_then_else_}
 use Rattle.panel.specs.declared.Shown.{Shown}
 use Rattle.panel.specs.State.{codeCount}
 use Rattle.glyphs.specs.Glyphs.{eightFrom, nestedOf}
+use Rattle.glyphs.specs.Source.{Source, special, font, sourceOf}
 
 -- each code has a cell, a cell eight bytes, and a font eight for each of 256 codes
 abbrev pub cellCount : ℕ
@@ -29,19 +30,6 @@ screen codes glyphs = record { codes = codes; glyphs = glyphs }
 -- the codes are the text, and the glyphs stand flat in the state
 abbrev pub screenOf : Shown → Screen
 screenOf s = screen (s .text) (nestedOf (s .glyphs))
-
--- what a code draws from: the special glyph of a number, or the font at a code
-pub data Source : Type 0 where
-  special : ℕ → Source
-  font : ℕ → Source
-
--- "code c from 0 to 15"
-abbrev pub isSpecial : ℕ → Bool
-isSpecial code = code <? 16
-
--- "code c from 0 to 15 draws glyph c mod 8" (document 02, order 2); "any other code c draws font bytes 8c to 8c + 7"
-unfoldable pub sourceOf : ℕ → Source
-sourceOf code = when isSpecial code then special (code % 8) else font code
 
 -- "low six bits"
 abbrev pub lowSix : List ℕ → List ℕ

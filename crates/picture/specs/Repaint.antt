@@ -1,12 +1,14 @@
 -- Which cells a call changes, and the picture repainted: "A call's list comes from the state before and after, never from the
 -- lent picture; all eight bytes of each listed cell are written, and no other byte."
-use Prim.Native.Nat.{ℕ, zero, suc, _<_}
+use Prim.Native.Nat.{ℕ, zero, suc}
 use mathlib.Core.Path.{_≡_}
-use mathlib.Core.Bool.{Bool, true, _&&_}
-use mathlib.Core.List.{List, [], _∷_, _++_}
+use mathlib.Core.Bool.{Bool, true, not, _&&_}
+use mathlib.Core.List.{List, []}
 use lib.ListN.{length, getD}
 use Rattle.lists.specs.Tests.{when_then_else_, _=?_}
 use Rattle.lists.specs.Runs.{front}
+use Rattle.lists.specs.Rising.{passing}
+use Rattle.sets.specs.Sets.{searched}
 use Rattle.picture.specs.Draw.{cellCount, pictureSize, Screen, cellDrawn, put, paint, drawn}
 
 -- whether the first n bytes are the same
@@ -18,27 +20,34 @@ alike (suc k) a b = alike k a b && (getD a k 0 =? getD b k 0)
 unfoldable pub same : Screen → Screen → List ℕ → ℕ → Bool
 same before after font cell = alike 8 (cellDrawn before font cell) (cellDrawn after font cell)
 
--- the cells below n that draw otherwise, rising
-unfoldable pub changedBelow : Screen → Screen → List ℕ → ℕ → List ℕ
-changedBelow before after font zero = []
-changedBelow before after font (suc cell) =
-    when same before after font cell then changedBelow before after font cell
-    else changedBelow before after font cell ++ cell ∷ []
+-- the cells that draw otherwise, rising
+abbrev pub otherwise : Screen → Screen → List ℕ → ℕ → Bool
+otherwise before after font cell = not (same before after font cell)
 
 abbrev pub changed : Screen → Screen → List ℕ → List ℕ
-changed before after font = changedBelow before after font cellCount
+changed before after font = passing (otherwise before after font) cellCount
 
 -- the picture with all eight bytes of each changed cell written
 unfoldable pub painted : Screen → Screen → List ℕ → List ℕ → List ℕ
 painted before after font picture = paint (same before after font) (cellDrawn after font) picture cellCount
 
+-- whether the glyph is as before that a cell's byte names, one less than the byte; 0 names none
+unfoldable pub glyphStays : ℕ → List (List ℕ) → List (List ℕ) → Bool
+glyphStays zero before after = true
+glyphStays (suc glyph) before after = alike 8 (getD before glyph []) (getD after glyph [])
+
+-- what a repaint knows before it looks at a cell: where `same` is true that the glyphs are as before, and where `bySets` is, that
+-- the codes are, and that the sets are those of the codes
+abbrev pub Known : (old new sets : List ℕ) (before after : List (List ℕ)) → Bool → Bool → Type 0
+Known old new sets before after same bySets = (same ≡ true → before ≡ after) × (bySets ≡ true → (old ≡ new) × (sets ≡ searched new))
+
+-- a cell draws as it did, whatever the font
+abbrev pub DrawsAlike : Screen → Screen → ℕ → Type 0
+DrawsAlike before after cell = (font : List ℕ) → alike 8 (cellDrawn before font cell) (cellDrawn after font cell) ≡ true
+
 -- what the repaint of one cell promises: whether it draws as it did, and the picture with its eight bytes written if not
 abbrev pub RepaintsCell : ℕ → List ℕ → List ℕ → List ℕ → Bool → List ℕ → Type 0
 RepaintsCell cell was bytes picture r picture′ = (r ≡ alike 8 was bytes) × (picture′ ≡ (when r then picture else put cell bytes picture 8))
-
--- a cell stands in the first n places of a list
-abbrev pub ListedIn : List ℕ → ℕ → ℕ → Type 0
-ListedIn list n cell = (i : ℕ) × (i < n) × (getD list i 0 ≡ cell)
 
 -- what a repaint promises of how many cells it lists, of the picture and of the list
 abbrev pub Repaints : Screen → Screen → List ℕ → List ℕ → List ℕ → ℕ → List ℕ → List ℕ → Type 0

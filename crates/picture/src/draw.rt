@@ -2,18 +2,9 @@
 ghost use mathlib.Core.Path.{_≡_};
 ghost use Prim.Native.Nat.{_<_};
 ghost use lib.ListN.{length};
-ghost use Rattle.picture.specs.Draw.{isSpecial, lowSix, codeDrawn, put};
+ghost use Rattle.picture.specs.Draw.{lowSix, codeDrawn, put};
 use glyphs::GLYPHS;
-
-// How many codes draw a special glyph, two each: a host whose strings end at 0 writes 8 for glyph 0 (document 02, order 2).
-const SPECIAL_CODES: u8 = 16;
-
-// Whether a code draws a special glyph; the others draw from the font.
-pub fn is_special(code: u8) -> bool
-    ensures { λ r. ⌜ r ≡ isSpecial code ⌝ }
-{
-    code < SPECIAL_CODES
-}
+use glyphs::is_special;
 
 fn low_six(rows: [u8; 8]) -> [u8; 8]
     ensures { λ r. ⌜ r ≡ lowSix rows ⌝ }

@@ -4,15 +4,17 @@ ghost use mathlib.Core.Bool.{true, not, _&&_, _||_};
 ghost use Prim.Native.Nat.{_<_, _≤_};
 ghost use lib.ListN.{length};
 ghost use Rattle.lists.specs.Tests.{_=?_};
-ghost use Rattle.picture.specs.Draw.{isSpecial, cellDrawn, drawn, screen, screenOf};
-ghost use Rattle.picture.specs.Repaint.{alike, RepaintsCell, RepaintsSized, DrawsAll};
+ghost use Rattle.glyphs.specs.Source.{isSpecial};
+ghost use Rattle.sets.specs.Sets.{isSearch};
+ghost use Rattle.picture.specs.Draw.{cellDrawn, drawn, screen, screenOf};
+ghost use Rattle.picture.specs.Repaint.{alike, glyphStays, Known, DrawsAlike, RepaintsCell, RepaintsSized, DrawsAll};
 use crate::draw::draw;
-use crate::draw::is_special;
 use crate::draw::put_cell;
+use glyphs::is_special;
 use panel::Shown;
 
 // How many cells there are, the bytes of a picture and of a font, and the size of a change list.
-pub const CELLS: usize = 80;
+const CELLS: usize = sets::CELLS;
 
 pub const PICTURE: usize = 8 * CELLS;
 
@@ -41,27 +43,72 @@ fn stays(a: u8, b: u8, same: bool) -> bool
     (a == b) & (same | !is_special(b))
 }
 
-// A cell that draws otherwise is written; says whether it draws as it did. `same` is true only where the glyphs are.
+// Whether the glyph is as before in whose set a cell is, by the cell's byte; a cell in no set has none that could change.
+fn glyph_stays(mark: u8, before: [[u8; 8]; 8], after: [[u8; 8]; 8]) -> bool
+    requires { ⌜ mark ≤ 8 ⌝ }
+    ensures { λ r. ⌜ r ≡ glyphStays mark before after ⌝ }
+{
+    if mark == 0 {
+        return true;
+    }
+    let glyph = mark as usize - 1;
+    let was = before[glyph];
+    let is = after[glyph];
+    alike_first(&was, &is, 8)
+}
+
+// Whether the sets can be asked: the codes are as before, and the sets are theirs.
+fn sets_serve(kept: bool, text: &[u8], sets: &[u8]) -> bool
+    ensures { λ r. ⌜ r ≡ kept && isSearch (now (text .entry)) (now (sets .entry)) ⌝ }
+{
+    if kept {
+        return sets::right(text, sets);
+    }
+    false
+}
+
+// Whether a cell is passed over, since it draws as it did. Where only glyphs changed, a cell outside their sets is, and neither its
+// code nor its drawing is looked at; elsewhere its codes decide.
+fn passed(
+    cell: usize,
+    old: &[u8],
+    new: &[u8],
+    sets: &[u8],
+    before: [[u8; 8]; 8],
+    after: [[u8; 8]; 8],
+    same: bool,
+    by_sets: bool,
+) -> bool
+    requires { ⌜ (cell < 80) × (length (now old) ≡ 80) × (length (now new) ≡ 80) × Known (now old) (now new) (now sets) before after same «by_sets» ⌝ }
+    ensures { λ r. ⌜ (r ≡ true → DrawsAlike (screen (now (old .entry)) before) (screen (now (new .entry)) after) cell) ⌝ }
+{
+    if by_sets {
+        return glyph_stays(sets[cell], before, after);
+    }
+    stays(old[cell], new[cell], same)
+}
+
+// A cell that draws otherwise is written; says whether it draws as it did.
 fn repaint_cell(
     picture: &mut [u8],
     cell: usize,
     old: &[u8],
     new: &[u8],
+    sets: &[u8],
     before: [[u8; 8]; 8],
     after: [[u8; 8]; 8],
     same: bool,
+    by_sets: bool,
     font: &[u8],
 ) -> bool
-    requires { ⌜ (length (now picture) ≡ 640) × (cell < 80) × (length (now old) ≡ 80) × (length (now new) ≡ 80) × (same ≡ true → before ≡ after) ⌝ }
+    requires { ⌜ (length (now picture) ≡ 640) × (cell < 80) × (length (now old) ≡ 80) × (length (now new) ≡ 80) × Known (now old) (now new) (now sets) before after same «by_sets» ⌝ }
     ensures { λ r. ⌜ RepaintsCell cell (cellDrawn (screen (now (old .entry)) before) (now (font .entry)) cell) (cellDrawn (screen (now (new .entry)) after) (now (font .entry)) cell) (now (picture .entry)) r (now (picture .exit)) ⌝ }
 {
-    let a = old[cell];
-    let b = new[cell];
-    if stays(a, b, same) {
+    if passed(cell, old, new, sets, before, after, same, by_sets) {
         return true;
     }
-    let was = draw(before, font, a);
-    let bytes = draw(after, font, b);
+    let was = draw(before, font, old[cell]);
+    let bytes = draw(after, font, new[cell]);
     if alike_first(&was, &bytes, 8) {
         true
     } else {
@@ -71,27 +118,41 @@ fn repaint_cell(
 }
 
 // Each cell that draws otherwise is written and listed. Nothing is where the picture or the list is not of its size, or where
-// codes and glyphs are as before.
+// codes and glyphs are as before: `kept` and `same` say so.
 fn repaint_cells(
     picture: &mut [u8],
     list: &mut [u8],
     old: &[u8],
     new: &[u8],
+    sets: &[u8],
     before: [[u8; 8]; 8],
     after: [[u8; 8]; 8],
     same: bool,
+    kept: bool,
     font: &[u8],
 ) -> usize
-    requires { ⌜ (length (now old) ≡ 80) × (length (now new) ≡ 80) × (same ≡ true → before ≡ after) ⌝ }
+    requires { ⌜ (length (now old) ≡ 80) × (length (now new) ≡ 80) × (same ≡ true → before ≡ after) × (kept ≡ true → now old ≡ now new) ⌝ }
     ensures { λ r. ⌜ RepaintsSized (screen (now (old .entry)) before) (screen (now (new .entry)) after) (now (font .entry)) (now (picture .entry)) (now (list .entry)) r (now (picture .exit)) (now (list .exit)) ⌝ }
 {
-    if (picture.len() != PICTURE) | (list.len() != LIST) | (same & alike_first(old, new, CELLS)) {
+    if (picture.len() != PICTURE) | (list.len() != LIST) | (same & kept) {
         return 0;
     }
+    let by_sets = sets_serve(kept, new, sets);
     let mut listed: usize = 0;
     let mut cell: usize = 0;
     while cell < CELLS {
-        if repaint_cell(picture, cell, old, new, before, after, same, font) {
+        if repaint_cell(
+            picture,
+            cell,
+            old,
+            new,
+            sets,
+            before,
+            after,
+            same,
+            by_sets,
+            font,
+        ) {
             cell += 1;
         } else {
             list[listed] = cell as u8;
@@ -103,12 +164,13 @@ fn repaint_cells(
 }
 
 // Each cell that draws otherwise after than before is written and listed; where the picture or the list is not of its size,
-// nothing is.
+// nothing is. The sets are those of the codes after; others make it slower, and nothing else.
 pub fn repaint(
     picture: &mut [u8],
     list: &mut [u8],
     before: Shown,
     after: Shown,
+    sets: [u8; CELLS],
     font: &[u8],
 ) -> usize
     ensures { λ r. ⌜ RepaintsSized (screenOf before) (screenOf after) (now (font .entry)) (now (picture .entry)) (now (list .entry)) r (now (picture .exit)) (now (list .exit)) ⌝ }
@@ -118,14 +180,17 @@ pub fn repaint(
     let a = before.glyphs;
     let b = after.glyphs;
     let same = alike_first(&a, &b, 64);
+    let kept = alike_first(&old, &new, CELLS);
     repaint_cells(
         picture,
         list,
         &old,
         &new,
+        &sets,
         glyphs::nested(a),
         glyphs::nested(b),
         same,
+        kept,
         font,
     )
 }

@@ -10,7 +10,7 @@ use Rattle.panel.specs.declared.Settings.{Settings}
 use Rattle.panel.specs.declared.Keys.{Keys}
 use Rattle.panel.specs.declared.Pins.{Pins}
 use Rattle.panel.specs.declared.Panel.{Panel}
-use Rattle.ranges.specs.Ranges.{allOf, configsInRange, cursorInRange, dialsInRange, masksInRange, partsInRange, settingsInRange, keysInRange, pinsInRange, inRanges}
+use Rattle.ranges.specs.Ranges.{allOf, configsInRange, cursorInRange, dialsInRange, masksInRange, partsInRange, settingsInRange, keysInRange, pinsInRange, setsInRange, inRanges}
 
 pub record PanelParts (p : Panel) : Type 0 where
   pub count : p .line .hold .count ≤ 25
@@ -18,19 +18,21 @@ pub record PanelParts (p : Panel) : Type 0 where
   pub boot : settingsInRange (p .body .boot) ≡ true
   pub keys : keysInRange (p .body .keys) ≡ true
   pub pins : pinsInRange (p .body .pins) ≡ true
+  pub sets : setsInRange (p .body) ≡ true
 
 pub panel-parts : (p : Panel) → inRanges p ≡ true → PanelParts p
 unfolding inRanges
 panel-parts p e =
-    let a = and-eq-true-iff _ _ .0 e in
+    let whole = and-eq-true-iff _ _ .0 e in
+    let a = and-eq-true-iff _ _ .0 (whole .0) in
     let b = and-eq-true-iff _ _ .0 (a .0) in
     let c = and-eq-true-iff _ _ .0 (b .0) in
     let d = and-eq-true-iff _ _ .0 (a .1) in
-    record { count = leb-true _ _ (c .0); live = c .1; boot = b .1; keys = d .0; pins = d .1 }
+    record { count = leb-true _ _ (c .0); live = c .1; boot = b .1; keys = d .0; pins = d .1; sets = whole .1 }
 
 pub panel-whole : (p : Panel) → PanelParts p → inRanges p ≡ true
 unfolding inRanges
-panel-whole p h = rw (le-leb _ _ (h .count), h .live, h .boot, h .keys, h .pins)
+panel-whole p h = rw (le-leb _ _ (h .count), h .live, h .boot, h .keys, h .pins, h .sets)
 
 -- the groups of settings
 pub record SettingsParts (s : Settings) : Type 0 where

@@ -1,5 +1,6 @@
 -- "A state is in its ranges if at most 25 bytes are held and each value, boot state included and taken alone (each key and
--- edge bit too), is one that the commands and events below can set; held bytes, text, flash and the unfiled number are free."
+-- edge bit too), is one that the commands and events below can set; held bytes, text, flash and the unfiled number are free." The
+-- sets are bound to the live text: 10 is given "also for sets that differ from that search" (document 02, order 4).
 use Prim.Native.Nat.{ℕ}
 use mathlib.Core.Path.{_≡_}
 use mathlib.Core.Bool.{Bool, true, _&&_}
@@ -7,6 +8,7 @@ use mathlib.Core.List.{List, [], _∷_}
 use Rattle.lists.specs.Tests.{_≤?_, all, allAtMost}
 use Rattle.packets.specs.Hold.{heldMost}
 use Rattle.table.specs.Table.{configAllowed}
+use Rattle.sets.specs.Sets.{isSearch}
 use Rattle.panel.specs.declared.Line.{Line}
 use Rattle.panel.specs.declared.Cursor.{Cursor}
 use Rattle.panel.specs.declared.Dials.{Dials}
@@ -14,6 +16,7 @@ use Rattle.panel.specs.declared.Masks.{Masks}
 use Rattle.panel.specs.declared.Settings.{Settings}
 use Rattle.panel.specs.declared.Keys.{Keys}
 use Rattle.panel.specs.declared.Pins.{Pins}
+use Rattle.panel.specs.declared.Body.{Body}
 use Rattle.panel.specs.declared.Panel.{Panel}
 
 -- all of the tests, the first one first
@@ -59,8 +62,13 @@ inputsInRange k p = keysInRange k && pinsInRange p
 abbrev pub lineInRange : Line → Bool
 lineInRange l = l .hold .count ≤? heldMost
 
+-- the sets are those that a search of the live text finds
+abbrev pub setsInRange : Body → Bool
+setsInRange b = isSearch (b .live .shown .text) (b .sets)
+
 unfoldable pub inRanges : Panel → Bool
-inRanges p = lineInRange (p .line) && settingsInRange (p .body .live) && settingsInRange (p .body .boot) && inputsInRange (p .body .keys) (p .body .pins)
+inRanges p =
+    lineInRange (p .line) && settingsInRange (p .body .live) && settingsInRange (p .body .boot) && inputsInRange (p .body .keys) (p .body .pins) && setsInRange (p .body)
 
 -- what `parts_in_range` promises
 abbrev pub PartsRange : List ℕ → Cursor → Dials → Masks → List ℕ → List ℕ → Bool → Type 0

@@ -1,8 +1,10 @@
 // Whether a state is in its ranges.
 ghost use mathlib.Core.Path.{_≡_};
 ghost use Rattle.lists.specs.Tests.{allAtMost};
+ghost use Rattle.sets.specs.Sets.{isSearch};
 ghost use Rattle.ranges.specs.Ranges.{configsInRange, cursorInRange, dialsInRange, masksInRange, settingsInRange, PartsRange, InputsRange, Ranges};
 use packets::HELD;
+use panel::CODES;
 use panel::Cursor;
 use panel::Dials;
 use panel::Keys;
@@ -10,6 +12,7 @@ use panel::Masks;
 use panel::Panel;
 use panel::Pins;
 use panel::Settings;
+use panel::Shown;
 
 fn cursor_in_range(c: Cursor) -> bool
     ensures { λ r. ⌜ r ≡ cursorInRange c ⌝ }
@@ -92,6 +95,14 @@ pub fn inputs_in_range(k: Keys, p: Pins) -> bool
     keys & pins
 }
 
+// Whether the sets are those of what is shown.
+fn sets_in_range(live: Shown, sets: [u8; CODES]) -> bool
+    ensures { λ r. ⌜ r ≡ isSearch (live .text) sets ⌝ }
+{
+    let text = live.text;
+    sets::right(&text, &sets)
+}
+
 pub fn in_ranges(p: Panel) -> bool
     ensures { λ r. ⌜ Ranges p r ⌝ }
 {
@@ -99,5 +110,7 @@ pub fn in_ranges(p: Panel) -> bool
     let live = settings_in_range(b.live);
     let boot = settings_in_range(b.boot);
     let inputs = inputs_in_range(b.keys, b.pins);
-    (p.line.hold.count <= HELD) & live & boot & inputs
+    let marks = b.sets;
+    let sets = sets_in_range(b.live.shown, marks);
+    (p.line.hold.count <= HELD) & live & boot & inputs & sets
 }

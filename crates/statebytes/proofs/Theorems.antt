@@ -21,7 +21,7 @@ use Rattle.statebytes.specs.Layout.{lineShape, lineParts, shownShape, cu
 use Rattle.statebytes.specs.State.{stateSize, bytesOf, panelOf, isState, PanelFits, lineWith, ReadsLine, WritesLine}
 
 -- The places, computed: the numbers of the tables in include/naupelys.h.
-pub size-is : stateSize ≡ 390
+pub size-is : stateSize ≡ 470
 size-is = refl
 
 pub line-places : places lineShape 0 ≡ 0 ∷ 1 ∷ 26 ∷ []
@@ -45,7 +45,7 @@ masks-places = refl
 pub wires-places : places wiresShape wiresPlace ≡ 151 ∷ 164 ∷ []
 wires-places = refl
 
-pub body-places : places bodyShape bodyPlace ≡ 30 ∷ 199 ∷ 368 ∷ 371 ∷ 374 ∷ []
+pub body-places : places bodyShape bodyPlace ≡ 30 ∷ 199 ∷ 368 ∷ 371 ∷ 374 ∷ 390 ∷ []
 body-places = refl
 
 pub length-state : (p : Panel) → PanelFits p → length (bytesOf p) ≡ stateSize

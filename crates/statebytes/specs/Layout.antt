@@ -116,16 +116,16 @@ pinsParts p = p .last & p .fell & p .rose
 abbrev pub pinsFrom : Value bitsShape → Pins
 pinsFrom (last & fell & rose) = record { last = last; fell = fell; rose = rose }
 
--- live, boot, keys, pins, flash
+-- live, boot, keys, pins, flash, sets
 abbrev pub bodyShape : Shape
-bodyShape = settingsShape ▸ settingsShape ▸ bitsShape ▸ bitsShape ▸ run flashSize
+bodyShape = settingsShape ▸ settingsShape ▸ bitsShape ▸ bitsShape ▸ run flashSize ▸ run codeCount
 
 abbrev pub bodyParts : Body → Value bodyShape
-bodyParts b = settingsParts (b .live) & settingsParts (b .boot) & keysParts (b .keys) & pinsParts (b .pins) & b .flash
+bodyParts b = settingsParts (b .live) & settingsParts (b .boot) & keysParts (b .keys) & pinsParts (b .pins) & b .flash & b .sets
 
 abbrev pub bodyFrom : Value bodyShape → Body
-bodyFrom (live & boot & keys & pins & flash) =
-    record { live = settingsFrom live; boot = settingsFrom boot; keys = keysFrom keys; pins = pinsFrom pins; flash = flash }
+bodyFrom (live & boot & keys & pins & flash & sets) =
+    record { live = settingsFrom live; boot = settingsFrom boot; keys = keysFrom keys; pins = pinsFrom pins; flash = flash; sets = sets }
 
 -- where the body, its keys and its pins stand in a state
 abbrev pub bodyPlace : ℕ

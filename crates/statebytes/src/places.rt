@@ -56,4 +56,6 @@ pub const ROSE: usize = FELL + 1;
 
 pub const FLASH: usize = ROSE + 1;
 
-pub const SIZE: usize = FLASH + FLASH_BYTES;
+pub const SETS: usize = FLASH + FLASH_BYTES;
+
+pub const SIZE: usize = SETS + CODES;

@@ -3,7 +3,7 @@ ghost use mathlib.Core.Path.{_≡_};
 ghost use Prim.Native.Nat.{_+_, _≤_};
 ghost use lib.ListN.{length};
 ghost use Rattle.shapes.specs.Shape.{size, value, Stands};
-ghost use Rattle.ranges.specs.Ranges.{settingsInRange, inRanges};
+ghost use Rattle.ranges.specs.Ranges.{settingsInRange, setsInRange, inRanges};
 ghost use Rattle.statebytes.specs.Layout.{shownShape, shownParts, cursorShape, cursorParts, cursorPlace, dialsShape, dialsParts, dialsPlace, masksShape, masksParts, masksPlace, wiresShape, wiresParts, wiresPlace, settingsShape, settingsParts, settingsFrom, bitsShape, keysParts, keysPlace, pinsParts, pinsPlace, bodyShape, bodyParts, bodyPlace};
 ghost use Rattle.statebytes.specs.State.{stateSize, panelOf, ReadsBody, RangesState};
 use panel::Body;
@@ -39,10 +39,16 @@ use statebytes::places::RELEASE;
 use statebytes::places::RELEASED;
 use statebytes::places::ROSE;
 use statebytes::places::ROW;
+use statebytes::places::SETS;
 use statebytes::places::SETTINGS;
 use statebytes::places::SIZE;
 use statebytes::places::STYLE;
 use statebytes::places::TEXT;
+
+// Where the live text stands, and where it ends.
+const LIVE_TEXT: usize = LIVE + TEXT;
+
+const LIVE_GLYPHS: usize = LIVE + GLYPHS;
 
 fn shown_of(bytes: &[u8]) -> Shown
     requires { ⌜ length (now bytes) ≡ size settingsShape ⌝ }
@@ -152,6 +158,8 @@ fn body_of(state: &[u8]) -> Body
 {
     let mut flash = [0u8; FLASH_BYTES];
     shapes::fill(&mut flash, state, FLASH);
+    let mut sets = [0u8; CODES];
+    shapes::fill(&mut sets, state, SETS);
     let keys = keys_of(state);
     let pins = pins_of(state);
     let live = settings_at(state, LIVE);
@@ -162,6 +170,7 @@ fn body_of(state: &[u8]) -> Body
         keys,
         pins,
         flash,
+        sets,
     }
 }
 
@@ -201,6 +210,14 @@ fn range_at(state: &[u8], place: usize) -> bool
     settings_in_range(&state[place..end])
 }
 
+// Whether the sets are those of the live text.
+fn sets_in_range(state: &[u8]) -> bool
+    requires { ⌜ length (now state) ≡ stateSize ⌝ }
+    ensures { λ r. ⌜ r ≡ setsInRange (panelOf (now (state .entry)) .body) ⌝ }
+{
+    sets::right(&state[LIVE_TEXT..LIVE_GLYPHS], &state[SETS..SIZE])
+}
+
 // Whether the state is in its ranges, tested on the bytes where they stand.
 fn ranges_of(state: &[u8]) -> bool
     requires { ⌜ length (now state) ≡ stateSize ⌝ }
@@ -212,7 +229,8 @@ fn ranges_of(state: &[u8]) -> bool
     let inputs = ranges::inputs_in_range(keys, pins);
     let live = range_at(state, LIVE);
     let boot = range_at(state, BOOT);
-    count & live & boot & inputs
+    let sets = sets_in_range(state);
+    count & live & boot & inputs & sets
 }
 
 // Whether the bytes are a state in its ranges.

@@ -34,6 +34,7 @@ use statebytes::places::RELEASE;
 use statebytes::places::RELEASED;
 use statebytes::places::ROSE;
 use statebytes::places::ROW;
+use statebytes::places::SETS;
 use statebytes::places::SETTINGS;
 use statebytes::places::SIZE;
 use statebytes::places::STYLE;
@@ -118,6 +119,7 @@ fn lay_body(state: &mut [u8], b: Body)
     lay_keys(state, b.keys);
     lay_pins(state, b.pins);
     lists::paste(state, FLASH, &b.flash);
+    lists::paste(state, SETS, &b.sets);
 }
 
 // The panel written; bytes that are no state are left alone.

@@ -24,7 +24,8 @@ use Rattle.panel.specs.State.{lineHolding}
 use Rattle.filing.specs.declared.Record.{Record}
 use Rattle.filing.specs.Filing.{Files, filed, filedIf}
 use Rattle.picture.specs.Draw.{cellDrawn, placeOf}
-use Rattle.picture.specs.Repaint.{changed, painted, ListedIn}
+use Rattle.lists.specs.Rising.{ListedIn}
+use Rattle.picture.specs.Repaint.{changed, painted}
 use Rattle.picture.proofs.Changes.{Listed, changed-same, painted-same, listed-rises, listed-inside, listed-differs, listed-drawn, unlisted-kept}
 use Rattle.answers.specs.declared.Check.{Check}
 use Rattle.answers.specs.declared.Answer.{Answer}
@@ -38,7 +39,7 @@ use Rattle.listen.specs.Listen.{answerIn, heardOf, heardReply}
 use Rattle.perform.specs.Commands.{carried}
 use Rattle.perform.specs.Perform.{shownBy, replyLength, replyWritten}
 use Rattle.linecall.specs.Line.{Lent, lineHeard, lineDone, bodyAfter, altered, saidWith, lineSaid, linePicture, lineList, lineReply, filesAfter, LineCall}
-use Rattle.theorems.proofs.Fronts.{front-own, front-behind}
+use Rattle.lists.proofs.Fronts.{front-own, front-behind}
 use Rattle.theorems.proofs.Outcomes.{scanOf, replyHeard, Outcome, turned-away, waits, finds, strays, does, refuses, outcome}
 
 -- the line's part after a piece is heard

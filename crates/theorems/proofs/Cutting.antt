@@ -1,5 +1,5 @@
 -- A story of the library's calls is one of the panel's own, on what the bytes stand for, and tells the same.
-use Prim.Native.Nat.{ℕ, suc, _≤_}
+use Prim.Native.Nat.{ℕ, suc, _+_, _≤_}
 use mathlib.Core.Path.{_≡_, refl, sym, _∙_, ap, subst}
 use mathlib.Core.Bool.{Bool, true, false}
 use mathlib.Core.List.{List, [], _∷_, _++_, map}
@@ -26,10 +26,10 @@ use Rattle.linecall.specs.Line.{Lent, lent, lineSaid, linePicture, lineList, li
 use Rattle.theorems.specs.Other.{Other, AnswersBytes}
 use Rattle.theorems.specs.Run.{World, withPanel, withRegister}
 use Rattle.theorems.specs.Story as story
-use Rattle.theorems.specs.Story.{Entry, replied, listed, Place, after, callPlaces}
+use Rattle.theorems.specs.Story.{Entry, replied, listed, wrote, Place, after, callPlaces}
 use Rattle.theorems.specs.Library.{Kept, withState, LineOn, StandsFor}
 use Rattle.theorems.specs.Cuts as cuts
-use Rattle.theorems.specs.Cuts.{answerBytes, takenIn, replyIn, Note, HearsBytes, Cut, placesIn}
+use Rattle.theorems.specs.Cuts.{answerBytes, takenIn, wroteIn, Note, HearsBytes, Cut, placesIn}
 use Rattle.theorems.proofs.Others as others
 use Rattle.theorems.proofs.Said.{numbersIn}
 use Rattle.theorems.proofs.Outcomes.{scanOf}
@@ -110,10 +110,10 @@ module _ {c : Other} {k : Kept} {w : World} (s : Standing k w) {out : List ℕ} 
   made-stands : Standing (withState k state′) (withPanel w (says .panel))
   made-stands = record { stands = standing.other-stands (s .stands) m; filed = record { records = s .filed .records; small = s .filed .small } }
 
-  made-note : cuts.other c (numbersIn (says .answer)) (replied says (others.leftBy c (w .panel) out)) ≡ cuts.other c (answerBytes said) (replyIn said out′)
+  made-note : cuts.other c (numbersIn (says .answer)) (wrote says (others.leftBy c (w .panel) out)) ≡ cuts.other c (answerBytes said) (wroteIn said out′)
   made-note =
       let b = standing.other-said (s .stands) m in
-      λ i. cuts.other c (sym (b .answer) i) (take (sym (b .reply) i) (sym (standing.other-reply (s .stands) m) i))
+      λ i. cuts.other c (sym (b .answer) i) (take (sym (b .reply) i + sym (b .listed) i) (sym (standing.other-reply (s .stands) m) i))
 
 -- other calls, one after the other
 others-alike : {k l : Kept} {notes : List Note} → cuts.OthersBytes k notes l → (w : World) → Standing k w
@@ -121,7 +121,7 @@ others-alike : {k l : Kept} {notes : List Note} → cuts.OthersBytes k notes l �
 others-alike cuts.none w s = ([], w .panel, story.none, s, refl)
 others-alike (cuts.one {c = c} {out = out} n m rest) w s =
     let y = others-alike rest (withPanel w (says s m .panel)) (made-stands s m) in (
-      story.other c (says s m .answer) (replied (says s m) (others.leftBy c (w .panel) out)) ∷ y .0,
+      story.other c (says s m .answer) (wrote (says s m) (others.leftBy c (w .panel) out)) ∷ y .0,
       y .1,
       story.one n (others.from-row c (w .panel) out) (y .2),
       y .3,
@@ -154,7 +154,7 @@ as-a-story {font} (cuts.line piece rest h c) w s =
     )
 as-a-story (cuts.call {c = c} {out = out} n m rest) w s =
     let y = as-a-story rest (withPanel w (says s m .panel)) (made-stands s m) in (
-      story.other c (says s m .answer) (replied (says s m) (others.leftBy c (w .panel) out)) ∷ y .0,
+      story.other c (says s m .answer) (wrote (says s m) (others.leftBy c (w .panel) out)) ∷ y .0,
       y .1,
       story.call n (others.from-row c (w .panel) out) (y .2),
       y .3,

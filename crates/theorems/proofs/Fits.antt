@@ -4,7 +4,7 @@ use mathlib.Core.Path.{_≡_, refl, _∙_, ap}
 use mathlib.Core.Bool.{Bool}
 use mathlib.Core.List.{List}
 use native.Mathlib.Omega.{arith}
-use lib.ListN.{length, take, replicate, length-set, length-take}
+use lib.ListN.{length, take, replicate, length-set, length-map, length-take}
 use Rattle.lists.specs.Tests.{_=?_}
 use Rattle.lists.proofs.Laws.{when-either, length-pasted, length-front}
 use Rattle.packets.specs.Hold.{held}
@@ -24,7 +24,8 @@ use Rattle.panel.specs.State.{lineHolding}
 use Rattle.answers.specs.declared.Said.{Said}
 use Rattle.answers.specs.Answer.{filingOf, refusedCall}
 use Rattle.answers.proofs.Checks.{refused-by, accepted-by, either-way}
-use Rattle.effects.specs.Effects.{liveAfter, effect}
+use Rattle.sets.specs.Sets.{markOf}
+use Rattle.effects.specs.Effects.{liveAfter, butSets, changesText, effect}
 use Rattle.perform.specs.Commands.{carried}
 use Rattle.linecall.specs.Line.{Lent, lineHeard, LineCall}
 use Rattle.shapes.specs.Shape.{Fits}
@@ -32,7 +33,7 @@ use Rattle.statebytes.specs.Layout.{lineShape, lineParts, settingsShape, settin
 use Rattle.statebytes.specs.State.{PanelFits}
 use Rattle.statebytes.proofs.Theorems.{holding-fits, unfiled-fits, with-unfiled-fits}
 use Rattle.theorems.specs.Other.{Other, Answers}
-use Rattle.theorems.proofs.Rows.{live-rows, effect-rows}
+use Rattle.theorems.proofs.Rows.{live-rows, body-rows}
 use Rattle.theorems.proofs.Others.{tests, accepted, by-row, row-fits}
 use Rattle.theorems.proofs.Outcomes.{scanOf}
 use Rattle.theorems.proofs.Lines.{after-body, heard-line, line-files}
@@ -56,15 +57,24 @@ module _ (code : ℕ) (d : List ℕ) where
       (h .0, (h .1 .0, (h .1 .1 .0, (h .1 .1 .1 .0, (length-set (s .wires .levels) _ _ ∙ w .0, when-either (λ (l : List ℕ). length l ≡ 5) (length d =? 3) _ _ (λ _. length-set (s .wires .configs) _ _ ∙ w .1) (λ _. w .1)))))))
       h
 
-  effect-fits : (b : Body) → Fits bodyShape (bodyParts b) → Fits bodyShape (bodyParts (effect code d b))
-  effect-fits b h =
-      effect-rows code d (λ (x : Body). Fits bodyShape (bodyParts x)) b
-      (h .0, (h .1 .0, (h .1 .1 .0, (h .1 .1 .1 .0, length-pasted (b .flash) 0 d ∙ h .1 .1 .1 .1))))
+  body-fits : (b : Body) → Fits bodyShape (bodyParts b) → Fits bodyShape (bodyParts (butSets code d b))
+  body-fits b h =
+      body-rows code d (λ (x : Body). Fits bodyShape (bodyParts x)) b
+      (h .0, (h .1 .0, (h .1 .1 .0, (h .1 .1 .1 .0, (length-pasted (b .flash) 0 d ∙ h .1 .1 .1 .1 .0, h .1 .1 .1 .1 .1)))))
       (h .0, (h .0, h .1 .1))
-      (h .1 .0, (h .1 .0, h .1 .1))
+      (λ _. (h .1 .0, (h .1 .0, h .1 .1)))
       h
       h
       (live-fits (b .live) (h .0), h .1)
+
+  -- there are as many bytes of sets as the text has codes
+  effect-fits : (b : Body) → Fits bodyShape (bodyParts b) → Fits bodyShape (bodyParts (effect code d b))
+  unfolding effect
+  effect-fits b h =
+      let q = body-fits b h in
+      when-either (λ (x : Body). Fits bodyShape (bodyParts x)) (changesText code) _ _
+      (λ _. (q .0, (q .1 .0, (q .1 .1 .0, (q .1 .1 .1 .0, (q .1 .1 .1 .1 .0, length-map (butSets code d b .live .shown .text) markOf ∙ q .0 .0 .0))))))
+      (λ _. q)
 
 -- what is held after a call has at most 25 bytes
 held-fits : (p : Panel) (l : Lent) → Fits lineShape (lineParts (p .line)) → Fits lineShape (lineParts (lineHolding (p .line) (scanOf p l .hold)))

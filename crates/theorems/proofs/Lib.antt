@@ -3,7 +3,6 @@ mod Rows
 pub mod Effects
 pub mod Others
 pub mod Outcomes
-pub mod Fronts
 pub mod Calls
 pub mod Lines
 pub mod Fits

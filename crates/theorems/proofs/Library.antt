@@ -20,7 +20,10 @@ use Rattle.ranges.proofs.Theorems.{power-on-in-range}
 use Rattle.filing.specs.Filing.{counts}
 use Rattle.glyphs.proofs.Every.{Every}
 use Rattle.picture.specs.Draw.{cellDrawn, placeOf, drawn}
-use Rattle.picture.specs.Repaint.{ListedIn}
+use Rattle.lists.specs.Rising.{ListedIn}
+use Rattle.glyphs.specs.Source.{special, sourceOf}
+use Rattle.sets.specs.Sets.{cellsOf, cellsFound}
+use Rattle.symbols.proofs.Theorems.{set-is-the-search}
 use Rattle.answers.specs.Answer.{numbersOf}
 use Rattle.perform.specs.Perform.{shownBy}
 use Rattle.power.specs.Power.{powerSaid, powerPicture, PowersOn}
@@ -30,7 +33,7 @@ use Rattle.statebytes.proofs.Theorems.{power-fits}
 use Rattle.registerbytes.specs.Register.{recordShape, recordFrom, registerShape, registerSize, isRegister, recordsLent}
 use Rattle.saidbytes.specs.Says.{numberOf}
 use Rattle.linebytes.specs.Line.{lineFiled, LineBytes}
-use Rattle.naupelys.specs.Calls.{PowerOnBytes}
+use Rattle.naupelys.specs.Calls.{PowerOnBytes, CellsBytes}
 use Rattle.theorems.specs.Other.{Other, AnswersBytes}
 use Rattle.theorems.specs.Run.{Call, line, other, World, withPanel, withRegister, anyRegister, lentBack, Runs, Afresh}
 use Rattle.theorems.specs.Run as run
@@ -73,7 +76,7 @@ module _ {c : Other} {state out : List ℕ} {number : ℕ} {state′ out′ said
   other-kept true e =
       let p = panelOf state in
       let k : 10 ≤ numberOf (others.saidBy c p out) = rw (others.by-bytes called .number ∙ others.is-on _ _ _ e) at h in
-      (others.by-bytes called .state ∙ others.is-on _ _ _ e ∙ standing.state-kept state (others.saidBy c p out) k, others.by-bytes called .reply ∙ others.is-on _ _ _ e ∙ others.refused-other-changes-nothing (others.from-row c p out) k .1 .1)
+      (others.by-bytes called .state ∙ others.is-on _ _ _ e ∙ others.refused-leaves c state (others.saidBy c p out) (standing.state-kept state (others.saidBy c p out) k), others.by-bytes called .reply ∙ others.is-on _ _ _ e ∙ others.refused-other-changes-nothing (others.from-row c p out) k .1 .1)
 
   -- So does every other call.
   pub refused-other-leaves-all : (state′ ≡ state) × (out′ ≡ out)
@@ -182,6 +185,24 @@ module _ (font state picture : List ℕ) (number : ℕ) (state′ picture′ sai
         standing.is-read (now .2),
         rw (standing.same-panel (now .2)) (panel.stays-in-range {w = started} (rw is-powered power-on-in-range) (omega (arith, started-stands .fits .0 .1 .0)) (now .1)),
       )
+
+      -- Each set of cells in it is what a search of its live text finds.
+      pub sets-are-the-search : (glyph : ℕ) → cellsOf (panelOf (k .state) .body .sets) glyph ≡ cellsFound (panelOf (k .state) .body .live .shown .text) glyph
+      sets-are-the-search = set-is-the-search (panelOf (k .state)) (stays-in-range .1)
+
+      -- Asked for the cells of a symbol then, a call that returns 3 and the count in its 16 bytes:
+      module _ {glyph : ℕ} {list : List ℕ} {number′ : ℕ} {list′ said : List ℕ} (m : CellsBytes (k .state) glyph list number′ list′ said) (a : number′ < 10) where
+        -- the list is rising, so that each cell stands in it once,
+        pub cells-rise : (i j : ℕ) → i < j → j < getD said 13 0 → getD list′ i 0 < getD list′ j 0
+        cells-rise = standing.symbol-rises (now .2) m a
+
+        -- it holds exactly the cells, below 80, whose code in the live text draws the glyph,
+        pub cells-of-a-symbol : (cell : ℕ) → ListedIn list′ (getD said 13 0) cell ↔ ((cell < 80) × (sourceOf (getD (panelOf (k .state) .body .live .shown .text) cell 0) ≡ special glyph))
+        cells-of-a-symbol = standing.symbol-exactly (now .2) m a
+
+        -- and the bytes behind are as they were.
+        pub behind-the-cells : (i : ℕ) → getD said 13 0 ≤ i → getD list′ i 0 ≡ getD list i 0
+        behind-the-cells = standing.symbol-behind (now .2) m a
 
       -- the calls of a line can be cut anywhere from then on, where the register's counts are small
       module _ (b : Bytes (k .faults)) where

@@ -76,7 +76,7 @@ module _ (p : Panel) (l : Lent) where
         let k = framing.held-at-most-25 (p .line .hold) (l .piece) (scanOf p l) refl n in
         let b = after-body p l BodyInRange (body-in-range p e) (λ u v. carried-in-range (p .body) (scanOf p l .packet) u v (body-in-range p e)) in
         let c : lineHeard p l .line .hold .count ≤ 25 = heard-line p l (λ (x : Line). x .hold .count ≤ 25) (h .count) k in
-        rw (called .0) (panel-whole _ record { count = c; live = b .live; boot = b .boot; keys = b .keys; pins = b .pins })
+        rw (called .0) (panel-whole _ record { count = c; live = b .live; boot = b .boot; keys = b .keys; pins = b .pins; sets = b .sets })
 
     -- the register and the unfiled number after the call
     pub line-files : record { register = register′; unfiled = r .panel .line .unfiled }

@@ -18,8 +18,8 @@ use Rattle.listen.specs.Reply.{answerTo, errorType}
 use Rattle.perform.specs.Commands.{carried}
 use Rattle.perform.specs.Perform.{shownBy}
 use Rattle.theorems.specs.Other.{Other}
-use Rattle.theorems.specs.Story.{Entry, packet, other, replied, Place, after, callPlaces}
-use Rattle.theorems.proofs.Others.{saidBy, leftBy, standing, blanks}
+use Rattle.theorems.specs.Story.{Entry, packet, other, wrote, Place, after, callPlaces}
+use Rattle.theorems.proofs.Others.{saidBy, leftBy, standing, blanksFor}
 
 pub data Item : Type 0 where
   found : Packet → Item
@@ -53,11 +53,11 @@ stepReply b k =
 module _ (font : List ℕ) where
   abbrev pub entryOf : Body → Item → Entry
   entryOf b (found k) = packet (answerTo k) (stepReply b k) (changed (shownBy b) (shownBy (stepBody b k)) font)
-  entryOf b (made c) = let r = saidBy c (standing b) blanks in other c (r .answer) (replied r (leftBy c (standing b) blanks))
+  entryOf b (made c) = let r = saidBy c (standing b) (blanksFor c) in other c (r .answer) (wrote r (leftBy c (standing b) (blanksFor c)))
 
   abbrev pub bodyThen : Body → Item → Body
   bodyThen b (found k) = stepBody b k
-  bodyThen b (made c) = saidBy c (standing b) blanks .panel .body
+  bodyThen b (made c) = saidBy c (standing b) (blanksFor c) .panel .body
 
   abbrev pub played : Body → List Item → List Entry
   played b [] = []

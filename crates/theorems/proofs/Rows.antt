@@ -9,7 +9,7 @@ use Rattle.lists.proofs.Laws.{when-either}
 use Rattle.panel.specs.declared.Settings.{Settings}
 use Rattle.panel.specs.declared.Body.{Body}
 use Rattle.panel.specs.State.{withStyle, withContrast, withBacklight, withLive, withKeys, withPins}
-use Rattle.effects.specs.Effects.{withFlash, stored, polled, rebooted, withShown, withCursor, withDials, withMasks, withWires, cleared, glyphSet, cursorAt, masksGiven, textWritten, pinSet, pinRead, liveAfter, effect}
+use Rattle.effects.specs.Effects.{withFlash, stored, polled, rebooted, withShown, withCursor, withDials, withMasks, withWires, cleared, glyphSet, cursorAt, masksGiven, textWritten, pinSet, pinRead, liveAfter, butSets}
 
 module _ (code : ℕ) (d : List ℕ) where
   -- in the order of `liveAfter`
@@ -35,14 +35,14 @@ module _ (code : ℕ) (d : List ℕ) where
       when-either P _ _ _ r31 (λ _.
       when-either P _ _ _ r34 (λ _. other)))))))))
 
-  -- in the order of `effect`
-  pub effect-rows : (P : Body → Type 0) (b : Body) → P (withFlash b d) → P (stored b) → P (rebooted b) → P (withKeys b (polled (b .keys))) → P (withPins b (pinRead (b .pins) d))
+  -- in the order of `butSets`
+  pub body-rows : (P : Body → Type 0) (b : Body) → P (withFlash b d) → P (stored b) → ((code =? 5) ≡ true → P (rebooted b)) → P (withKeys b (polled (b .keys))) → P (withPins b (pinRead (b .pins) d))
       → P (withLive b (liveAfter code d (b .live)))
-      → P (effect code d b)
-  unfolding effect
-  effect-rows P b r2 r4 r5 r24 r35 other =
+      → P (butSets code d b)
+  unfolding butSets
+  body-rows P b r2 r4 r5 r24 r35 other =
       when-either P _ _ _ (λ _. r2) (λ _.
       when-either P _ _ _ (λ _. r4) (λ _.
-      when-either P _ _ _ (λ _. r5) (λ _.
+      when-either P _ _ _ r5 (λ _.
       when-either P _ _ _ (λ _. r24) (λ _.
       when-either P _ _ _ (λ _. r35) (λ _. other)))))

@@ -24,6 +24,7 @@ use Rattle.listen.specs.declared.Heard.{Heard}
 use Rattle.listen.specs.Reply.{refusedLength}
 use Rattle.listen.specs.Listen.{heardOf}
 use Rattle.perform.specs.Perform.{shownBy}
+use Rattle.statebytes.specs.State.{PanelFits}
 use Rattle.linecall.specs.Line.{Lent, lineHeard, lineDone, bodyAfter, lineSaid}
 use Rattle.saidbytes.specs.Says.{saidBytes, numberOf, bytesSaid}
 use Rattle.theorems.specs.Other.{Other}
@@ -78,14 +79,14 @@ module _ (p : Panel) (l : Lent) (n : length (p .line .hold .bytes) ≤ 25) where
         dropped = h .dropped;
         checked = h .checked;
         reply = when-either (λ (m : ℕ). m < 256) (lineDone p l) _ _ (λ _. reply-short (l .reply) _) (λ _. h .reply);
-        listed = omega (arith, changed-short (shownBy (p .body)) (shownBy (bodyAfter p l)) (l .font) 80);
+        listed = omega (arith, changed-short (shownBy (p .body)) (shownBy (bodyAfter p l)) (l .font));
       }
 
-pub other-small : (c : Other) (p : Panel) (out : List ℕ) → SaidSmall (saidBy c p out)
-other-small c p out =
+pub other-small : (c : Other) (p : Panel) (out : List ℕ) → PanelFits p → SaidSmall (saidBy c p out)
+other-small c p out h =
     either-way (tests c p out)
     (λ d f. rw (refused-by f (refusedCall p) (accepted c p)) record { taken = omega arith; dropped = omega arith; checked = omega arith; reply = omega arith; listed = omega arith })
-    (λ q. rw (accepted-by (tests c p out) q (refusedCall p) (accepted c p)) (row-small c p))
+    (λ q. rw (accepted-by (tests c p out) q (refusedCall p) (accepted c p)) (row-small c p h))
 
 -- the answer's four numbers
 abbrev pub numbersIn : Answer → List ℕ

@@ -13,7 +13,7 @@ use Rattle.lists.proofs.Laws.{when-either, when-true, when-false}
 use Rattle.panel.specs.declared.Panel.{Panel}
 use Rattle.filing.specs.Filing.{Files}
 use Rattle.picture.specs.Draw.{cellDrawn, placeOf}
-use Rattle.picture.specs.Repaint.{ListedIn}
+use Rattle.lists.specs.Rising.{ListedIn}
 use Rattle.answers.specs.declared.Check.{Check}
 use Rattle.answers.specs.declared.Answer.{Answer}
 use Rattle.answers.specs.declared.Answer.the-variants.{CallRefused}
@@ -28,10 +28,14 @@ use Rattle.registerbytes.specs.Register.{registerSize, recordsLent, registerOf}
 use Rattle.registerbytes.proofs.Theorems.{length-lent, lent-is-read}
 use Rattle.saidbytes.specs.Says.{numberOf, bytesSaid, noState}
 use Rattle.linebytes.specs.Line.{recordsIn, filesBy, faultsAfter, stateAfter, lineFiled}
-use Rattle.theorems.specs.Other.{Other, AnswersBytes}
+use Rattle.glyphs.specs.Source.{special, sourceOf}
+use Rattle.symbols.proofs.Theorems.{cells-only-read}
+use Rattle.symbols.proofs.Theorems as symbols
+use Rattle.naupelys.specs.Calls.{CellsBytes}
+use Rattle.theorems.specs.Other.{Other, key, pin, cells, Answers, tells, AnswersBytes}
 use Rattle.theorems.specs.Run.{World, withPanel, withRegister, refusedIn, Hears}
 use Rattle.theorems.specs.Library.{Kept, withState, LineOn, refusals, StandsFor}
-use Rattle.theorems.proofs.Others.{is-on, by-bytes}
+use Rattle.theorems.proofs.Others.{is-on, stateBy, by-bytes}
 use Rattle.theorems.proofs.Others as others
 use Rattle.theorems.proofs.Outcomes.{testsOf, Outcome, turned-away, waits, finds, strays, does, refuses, outcome}
 use Rattle.theorems.proofs.Calls.{call-refused-says}
@@ -85,14 +89,19 @@ module _ {k : Kept} {w : World} (s : StandsFor k w) where
     other-reply = by-bytes m .reply ∙ on-panel out (λ (p : Panel). others.leftBy c p out)
 
     pub other-said : ReadFrom said′ says
-    other-said = said-back says said′ (by-bytes m .said ∙ on-panel noState (λ (p : Panel). bytesSaid (others.saidBy c p out))) (other-small c (w .panel) out)
+    other-said = said-back says said′ (by-bytes m .said ∙ on-panel noState (λ (p : Panel). bytesSaid (others.saidBy c p out))) (other-small c (w .panel) out (s .fits))
+
+    -- the bytes are written, or only read
+    stateBy-stands : (d : Other) (r : Said) {out : List ℕ} {out′ : List ℕ} → Answers d (w .panel) out r out′ → stateBy d (k .state) r ≡ bytesOf (r .panel)
+    stateBy-stands (key number down) r a = after-stands r (λ h. ap (λ (x : Said). x .panel) (others.refused-other-changes-nothing a h .1 .0))
+    stateBy-stands (pin number high) r a = after-stands r (λ h. ap (λ (x : Said). x .panel) (others.refused-other-changes-nothing a h .1 .0))
+    stateBy-stands (cells glyph) r (tells {out = out} {out′ = out′} a) = s .state ∙ ap bytesOf (sym (cells-only-read (w .panel) glyph out r out′ a))
 
     pub other-stands : StandsFor (withState k state′) (withPanel w (says .panel))
     other-stands =
         let a = others.from-row c (w .panel) out in
         record {
-          state = by-bytes m .state ∙ on-panel (k .state) (λ (p : Panel). stateAfter (k .state) (others.saidBy c p out))
-              ∙ after-stands says (λ h. ap (λ (r : Said). r .panel) (others.refused-other-changes-nothing a h .1 .0));
+          state = by-bytes m .state ∙ on-panel (k .state) (λ (p : Panel). stateBy c (k .state) (others.saidBy c p out)) ∙ stateBy-stands c says a;
           fits = other-fits a (s .fits);
           picture = s .picture;
         }
@@ -100,6 +109,30 @@ module _ {k : Kept} {w : World} (s : StandsFor k w) where
     pub none-refused : refusals n ≡ refusedIn says
     unfolding refusals refusedIn
     none-refused = ap refusals other-number
+
+  -- the cells of a symbol, by the count in the 16 bytes
+  module _ {glyph : ℕ} {list : List ℕ} {n : ℕ} {list′ said′ : List ℕ} (m : CellsBytes (k .state) glyph list n list′ said′) (accepted : n < 10) where
+    abbrev asked : Said
+    asked = others.saidBy (cells glyph) (w .panel) list
+
+    abbrev told : List ℕ
+    told = others.leftBy (cells glyph) (w .panel) list
+
+    below-ten : numberOf asked < 10
+    below-ten = rw (other-number (tells m)) at accepted
+
+    pub symbol-rises : (i j : ℕ) → i < j → j < getD said′ 13 0 → getD list′ i 0 < getD list′ j 0
+    symbol-rises i j h g =
+        rw (other-reply (tells m)) (symbols.cells-rise (w .panel) glyph list asked told (refl, refl) below-ten i j h (rw (other-said (tells m) .listed) at g))
+
+    pub symbol-exactly : (cell : ℕ) → ListedIn list′ (getD said′ 13 0) cell ↔ ((cell < 80) × (sourceOf (getD (panelOf (k .state) .body .live .shown .text) cell 0) ≡ special glyph))
+    symbol-exactly cell =
+        let size : length (w .panel .body .live .shown .text) ≡ 80 = s .fits .1 .0 .0 .0 in
+        rw (other-reply (tells m), other-said (tells m) .listed, same-panel) (rw size at (symbols.cells-of-a-symbol (w .panel) glyph list asked told (refl, refl) below-ten cell))
+
+    pub symbol-behind : (i : ℕ) → getD said′ 13 0 ≤ i → getD list′ i 0 ≡ getD list i 0
+    symbol-behind i h =
+        rw (other-reply (tells m)) (symbols.behind-the-cells (w .panel) glyph list asked told (refl, refl) below-ten i (rw (other-said (tells m) .listed) at h))
 
   -- a line call, lent these bytes as a register
   module _ (font : List ℕ) {piece list out : List ℕ} {n : ℕ} {l : Kept} {list′ out′ said′ : List ℕ} (m : LineOn font k piece list out n l list′ out′ said′) where

@@ -38,9 +38,9 @@ use Rattle.listen.specs.Listen.{answerIn, heardOf, heardReply}
 use Rattle.perform.specs.Commands.{carried}
 use Rattle.perform.specs.Perform.{shownBy, replyLength, replyWritten}
 use Rattle.linecall.specs.Line.{Lent, lent, lineHeard, lineDone, bodyAfter, altered, lineSaid, lineList, lineReply, filesAfter}
-use Rattle.theorems.specs.Other.{Other, Answers}
+use Rattle.theorems.specs.Other.{Other, roomFor, Answers}
 use Rattle.theorems.specs.Run.{World, withPanel, filesOf}
-use Rattle.theorems.specs.Story.{Entry, packet, other, replied, listed, noted, LineHears, Others, none, one, Story, last, line, call, callPlaces}
+use Rattle.theorems.specs.Story.{Entry, packet, other, replied, listed, wrote, noted, LineHears, Others, none, one, Story, last, line, call, callPlaces}
 use Rattle.theorems.proofs.Others.{by-row, alike, blanks}
 use Rattle.theorems.proofs.Outcomes.{testsOf, scanOf, replyHeard, Answered, strays, does, refuses, Outcome, turned-away, waits, finds, outcome}
 use Rattle.theorems.proofs.Runs.{InOrder, hears-in-order, hears-files, answers-in-order, lentTo, saidThen, worldThen, hears-then}
@@ -186,12 +186,12 @@ filed-noted r list out entries f = go (numbersOf (r .answer) .number =? 1) refl
         rw (when-true _ ([]) (note ∷ []) e) (ap (filedBy entries) (sym (when-false _ _ _ (rw n refl))))
     go false e = rw (when-false _ ([]) (note ∷ []) e)
 
-module _ {c : Other} {p : Panel} {out : List ℕ} {r : Said} {out′ : List ℕ} (font : List ℕ) (n : length out ≡ 26) (m : Answers c p out r out′) (h : InOrder p) where
-  made-turn : (other c (r .answer) (replied r out′) ≡ entryOf font (p .body) (made c)) × (r .panel ≡ withBody p (bodyThen font (p .body) (made c)))
+module _ {c : Other} {p : Panel} {out : List ℕ} {r : Said} {out′ : List ℕ} (font : List ℕ) (n : length out ≡ roomFor c) (m : Answers c p out r out′) (h : InOrder p) where
+  made-turn : (other c (r .answer) (wrote r out′) ≡ entryOf font (p .body) (made c)) × (r .panel ≡ withBody p (bodyThen font (p .body) (made c)))
   made-turn =
       let a = alike c p out (h .ranges) n in
       let b = by-row m in
-      (rw (b .0, b .1, a .answer, a .reply), rw (b .0) (a .panel))
+      (rw (b .0, b .1, a .answer, a .front), rw (b .0) (a .panel))
 
 -- other calls, played
 record PlayedOut (font : List ℕ) (p : Panel) (entries : List Entry) (q : Panel) : Type 0 where

@@ -9,6 +9,9 @@ use lib.ListN.{length}
 use Rattle.panel.specs.declared.Panel.{Panel}
 use Rattle.panel.specs.State.{poweredOn}
 use Rattle.ranges.specs.Ranges.{inRanges}
+use Rattle.ranges.proofs.Theorems.{power-on-in-range}
+use Rattle.sets.specs.Sets.{cellsOf, cellsFound}
+use Rattle.symbols.proofs.Theorems.{set-is-the-search}
 use Rattle.filing.specs.declared.Record.{Record}
 use Rattle.filing.specs.Filing.{counts}
 use Rattle.framing.proofs.Theorems as framing
@@ -22,7 +25,7 @@ use Rattle.theorems.specs.Run.{Call, World, anyRegister, lentBack, Runs,
 use Rattle.theorems.specs.Story.{Entry, Others, none, one, Story, last, line, call, callPlaces}
 use Rattle.theorems.specs.Worked.{told, piecesOf, expectedOf, workedCases}
 use Rattle.theorems.proofs.Others.{live-kept}
-use Rattle.theorems.proofs.Runs.{power-panel, power-draws, power-refused, hears-afresh, answers-afresh, still-afresh, still-in-order, adds-up, makes}
+use Rattle.theorems.proofs.Runs.{InOrder, power-panel, power-draws, power-refused, hears-afresh, answers-afresh, still-afresh, still-in-order, adds-up, makes}
 use Rattle.theorems.proofs.Stories.{same-story, story-of}
 use Rattle.theorems.proofs.Worked.{all-said}
 
@@ -37,6 +40,16 @@ module _ (font picture picture′ : List ℕ) (r : Said) (on : PowersOn picture 
   pub drawn-afresh : numbersOf (r .answer) .number < 10 → (register : List Record) (cs : List Call) (v : World) (n : ℕ)
       → Runs font anyRegister cs (record { panel = r .panel; picture = picture′; register = register }) v n → Afresh font v
   drawn-afresh a register cs v n runs = still-afresh runs (power-draws picture font r picture′ on a)
+
+  -- From then on, a refused power-on too, each set of cells is after any such sequence what a search of the live text finds.
+  pub sets-are-the-search : (register : List Record) (cs : List Call) (v : World) (n : ℕ)
+      → Runs font anyRegister cs (record { panel = r .panel; picture = picture′; register = register }) v n → (glyph : ℕ)
+      → cellsOf (v .panel .body .sets) glyph ≡ cellsFound (v .panel .body .live .shown .text) glyph
+  unfolding poweredOn
+  sets-are-the-search register cs v n runs glyph =
+      let on-is = power-panel picture font r picture′ on in
+      let start : InOrder (r .panel) = record { ranges = rw on-is power-on-in-range; bytes = rw on-is (omega arith) } in
+      set-is-the-search (v .panel) (still-in-order runs start .ranges) glyph
 
   -- From a power-on, accepted or refused, and a register whose records are all free, lent back as left, below 4,294,967,296 refusals,
   -- the counts plus the unfiled number equal the packets refused.

@@ -4,6 +4,7 @@ use mathlib.Core.List.{map}
 use Rattle.lists.specs.Tests.{when_then_else_, all}
 use Rattle.lists.specs.First.{firstBelow}
 use Rattle.lists.specs.Runs.{pasted}
+use Rattle.lists.specs.Rising.{passing}
 use Rattle.bits.specs.Bits.{isOn, withoutBit}
 use Rattle.fcs.specs.Fcs.{afterBit, afterByte}
 use Rattle.packets.specs.Packet.{composedLength, composed}
@@ -12,13 +13,15 @@ use Rattle.framing.specs.Scan.{settleAt, settle, goOn, scan, scannedOf}
 use Rattle.table.specs.Table.{lookUp, configAllowed}
 use Rattle.verdict.specs.Verdict.{inRange, firstOut, isReboot, wholeVerdict, verdictBy}
 use Rattle.glyphs.specs.Glyphs.{nestedOf, flatFirst, flatOf}
+use Rattle.glyphs.specs.Source.{sourceOf}
+use Rattle.sets.specs.Sets.{markFor, searchedBelow, isSearch}
 use Rattle.panel.specs.State.{factorySettings, poweredOn}
 use Rattle.ranges.specs.Ranges.{allOf, cursorInRange, dialsInRange, masksInRange, partsInRange, keysInRange, pinsInRange, inRanges}
-use Rattle.effects.specs.Effects.{liveAfter, effect}
+use Rattle.effects.specs.Effects.{liveAfter, butSets, effect}
 use Rattle.replies.specs.Replies.{memory, edges, replyData}
 use Rattle.perform.specs.Commands.{carried}
-use Rattle.picture.specs.Draw.{sourceOf, drawnFrom, codeDrawn}
-use Rattle.picture.specs.Repaint.{same, changedBelow}
+use Rattle.picture.specs.Draw.{drawnFrom, codeDrawn}
+use Rattle.picture.specs.Repaint.{same}
 use Rattle.answers.specs.Answer.{checkNumber, numbersOf, isDone}
 use Rattle.answers.specs.Checks.{decided}
 use Rattle.listen.specs.Reply.{ruling, answerTo, refusedLength, refusedReply}
@@ -26,5 +29,5 @@ use Rattle.listen.specs.Listen.{answerIn, listened, listenedReply}
 use Rattle.theorems.specs.Worked.{told, piecesOf, expectedOf, workedCases}
 
 pub all-said : map (λ c. told poweredOn (piecesOf c)) workedCases ≡ map expectedOf workedCases
-unfolding when_then_else_ allOf all firstBelow pasted isOn withoutBit afterBit afterByte composedLength composed checksumRight judge settleAt settle goOn scan scannedOf lookUp configAllowed inRange firstOut isReboot wholeVerdict verdictBy nestedOf flatFirst flatOf factorySettings poweredOn cursorInRange dialsInRange masksInRange partsInRange keysInRange pinsInRange inRanges liveAfter effect memory edges replyData carried sourceOf drawnFrom codeDrawn same changedBelow checkNumber numbersOf isDone decided ruling answerTo refusedLength refusedReply answerIn listened listenedReply told
+unfolding when_then_else_ allOf all firstBelow pasted isOn withoutBit afterBit afterByte composedLength composed checksumRight judge settleAt settle goOn scan scannedOf lookUp configAllowed inRange firstOut isReboot wholeVerdict verdictBy nestedOf flatFirst flatOf factorySettings poweredOn cursorInRange dialsInRange masksInRange partsInRange keysInRange pinsInRange markFor searchedBelow isSearch inRanges liveAfter butSets effect memory edges replyData carried sourceOf drawnFrom codeDrawn same passing checkNumber numbersOf isDone decided ruling answerTo refusedLength refusedReply answerIn listened listenedReply told
 all-said = refl

@@ -5,7 +5,7 @@ use mathlib.Core.Path.{_≡_}
 use mathlib.Core.List.{List, [], _∷_, _++_}
 use lib.ListN.{length, take, drop, getD}
 use Rattle.lists.specs.Tests.{when_then_else_, _=?_}
-use Rattle.theorems.specs.Other.{Other, AnswersBytes}
+use Rattle.theorems.specs.Other.{Other, roomFor, AnswersBytes}
 use Rattle.theorems.specs.Story.{Place, after}
 use Rattle.theorems.specs.Library.{Kept, withState, LineOn}
 
@@ -23,10 +23,14 @@ replyIn said out = take (getD said 12 0) out
 abbrev pub cellsIn : List ℕ → List ℕ → List ℕ
 cellsIn said list = take (getD said 13 0) list
 
+-- what another call wrote to the front of its buffer
+abbrev pub wroteIn : List ℕ → List ℕ → List ℕ
+wroteIn said out = take (getD said 12 0 + getD said 13 0) out
+
 -- what a story tells
 pub data Note : Type 0 where
   packet : (answer reply cells : List ℕ) → Note
-  other : Other → (answer reply : List ℕ) → Note
+  other : Other → (answer front : List ℕ) → Note
 
 -- of a call on the line: nothing where it waits
 unfoldable pub notedIn : List ℕ → List ℕ → List ℕ → List Note
@@ -40,14 +44,14 @@ pub record HearsBytes (font : List ℕ) (k : Kept) (piece said list′ out′ : 
   pub called : LineOn font k piece list out number l list′ out′ said
   pub accepted : number < 10
 
--- OthersBytes k notes l: other calls, each lent a reply buffer of 26 bytes
+-- OthersBytes k notes l: other calls, each lent a buffer of its size
 pub data OthersBytes : Kept → List Note → Kept → Type 0 where
   none : {k : Kept} → OthersBytes k [] k
-  one : {k m : Kept} {c : Other} {n : ℕ} {out state′ out′ said : List ℕ} {notes : List Note} → length out ≡ 26 → AnswersBytes c (k .state) out n state′ out′ said
-      → OthersBytes (withState k state′) notes m → OthersBytes k (other c (answerBytes said) (replyIn said out′) ∷ notes) m
+  one : {k m : Kept} {c : Other} {n : ℕ} {out state′ out′ said : List ℕ} {notes : List Note} → length out ≡ roomFor c → AnswersBytes c (k .state) out n state′ out′ said
+      → OthersBytes (withState k state′) notes m → OthersBytes k (other c (answerBytes said) (wroteIn said out′) ∷ notes) m
 
 -- Cut font k bytes notes l: the bytes, cut into pieces anywhere and given to line calls, with other calls anywhere among them
--- and each lent a reply buffer of 26 bytes, take the bytes k to l
+-- and each lent a buffer of its size, take the bytes k to l
 pub data Cut (font : List ℕ) : Kept → List ℕ → List Note → Kept → Type 0 where
   -- the last call on the line: all is taken and the number is 1
   last : {k l m : Kept} {bytes said list′ out′ : List ℕ} {notes : List Note} → HearsBytes font k bytes said list′ out′ l → takenIn said ≡ length bytes
@@ -56,8 +60,8 @@ pub data Cut (font : List ℕ) : Kept → List ℕ → List Note → Kept → Ty
   line : {k l m : Kept} (piece rest : List ℕ) {said list′ out′ : List ℕ} {notes : List Note} → HearsBytes font k piece said list′ out′ l
       → Cut font l (drop (takenIn said) (piece ++ rest)) notes m → Cut font k (piece ++ rest) (notedIn said list′ out′ ++ notes) m
   -- another call
-  call : {k m : Kept} {bytes : List ℕ} {c : Other} {n : ℕ} {out state′ out′ said : List ℕ} {notes : List Note} → length out ≡ 26 → AnswersBytes c (k .state) out n state′ out′ said
-      → Cut font (withState k state′) bytes notes m → Cut font k bytes (other c (answerBytes said) (replyIn said out′) ∷ notes) m
+  call : {k m : Kept} {bytes : List ℕ} {c : Other} {n : ℕ} {out state′ out′ said : List ℕ} {notes : List Note} → length out ≡ roomFor c → AnswersBytes c (k .state) out n state′ out′ said
+      → Cut font (withState k state′) bytes notes m → Cut font k bytes (other c (answerBytes said) (wroteIn said out′) ∷ notes) m
 
 -- the other calls, each with the number of packets before it
 abbrev pub placesIn : ℕ → List Note → List Place

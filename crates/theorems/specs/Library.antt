@@ -1,5 +1,5 @@
 -- Sequences of the C library's calls: the state and the picture are lent back as the last call left their bytes, and each call is
--- lent a list and a reply buffer of any size and content, but the same font.
+-- lent buffers of any size and content, but the same font.
 use Prim.Native.Nat.{ℕ, _+_}
 use mathlib.Core.Path.{_≡_}
 use mathlib.Core.List.{List, [], _∷_}

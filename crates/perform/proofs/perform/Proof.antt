@@ -10,7 +10,7 @@ returns : tie.Need-returns
 unfolding carried
 returns c =
     let painting = c .before .before .before .before in
-    let replying = painting .before .before .before .before .before .before .before in
+    let replying = painting .before .before .before .before .before .before .before .before in
     let making = replying .before .before in
     let out = making .before .before .before .before .before .before .args .reply .now in
     let did = making .before .effect-of .ensures in

@@ -3,37 +3,33 @@ use mathlib.Core.Path.{refl, _∙_, sym}
 use lib.ListN.{getD}
 use Rattle.lists.specs.Tests.{when_then_else_}
 use Rattle.picture.specs.Draw.{codeDrawn}
-use Rattle.picture.proofs.Codes.{stays-alike}
 use Rattle.picture.proofs.Turns.{cell-left, cell-written}
 use Rattle.picture.proofs.repaint.repaint_cell.Statement.{statement}
 use Rattle.picture.proofs.repaint.repaint_cell.Tie as tie
 
 returns : tie.Need-returns
 unfolding when_then_else_
-returns c =
-    let a = c .before .before .before .before .before .before .before .before .args in
-    let k = stays-alike (a .before) (a .after) (a .font .now) (getD (a .old .now) (a .cell) 0) (getD (a .new .now) (a .cell) 0) (a .same) (c .before .before .before .before .before .before .before .before .pre .4) (sym (c .before .stays .ensures) ∙ c .if1 .taken) in
-    (sym k, refl)
+returns c = (sym (c .before .passed .ensures (c .if1 .taken) (c .before .before .before .before .before .before .before .args .font .now)), refl)
 
 returns-2 : tie.Need-returns-2
 returns-2 c =
-    let a = c .before .before .before .before .before .before .before .before .before .before .before .before .before .before .args in
-    cell-left (a .cell) (codeDrawn (a .before) (a .font .now) (getD (a .old .now) (a .cell) 0)) (codeDrawn (a .after) (a .font .now) (getD (a .new .now) (a .cell) 0)) (a .picture .now) _ _ _ (c .before .before .before .before .before .draw .ensures) (c .before .before .before .before .draw2 .ensures) (c .before .alike-first .ensures) (c .if2 .taken)
+    let a = c .before .before .before .before .before .before .before .before .before .before .before .before .before .before .before .args in
+    cell-left (a .cell) (codeDrawn (a .before) (a .font .now) (getD (a .old .now) (a .cell) 0)) (codeDrawn (a .after) (a .font .now) (getD (a .new .now) (a .cell) 0)) (a .picture .now) _ _ _ (c .before .before .before .before .before .before .draw .ensures) (c .before .before .before .before .draw2 .ensures) (c .before .alike-first .ensures) (c .if2 .taken)
 
 returns-3 : tie.Need-returns-3
 returns-3 c =
-    let a = c .before .before .before .before .before .before .before .before .before .before .before .before .before .before .before .before .before .before .args in
-    cell-written (a .cell) (codeDrawn (a .before) (a .font .now) (getD (a .old .now) (a .cell) 0)) (codeDrawn (a .after) (a .font .now) (getD (a .new .now) (a .cell) 0)) (a .picture .now) _ _ _ (c .before .before .before .before .before .before .before .before .before .draw .ensures) (c .before .before .before .before .before .before .before .before .draw2 .ensures) (c .before .before .before .before .before .alike-first .ensures) _ (c .before .before .before .before .if2 .left) (c .before .before .put-cell .ensures)
+    let a = c .before .before .before .before .before .before .before .before .before .before .before .before .before .before .before .before .before .before .before .args in
+    cell-written (a .cell) (codeDrawn (a .before) (a .font .now) (getD (a .old .now) (a .cell) 0)) (codeDrawn (a .after) (a .font .now) (getD (a .new .now) (a .cell) 0)) (a .picture .now) _ _ _ (c .before .before .before .before .before .before .before .before .before .before .draw .ensures) (c .before .before .before .before .before .before .before .before .draw2 .ensures) (c .before .before .before .before .before .alike-first .ensures) _ (c .before .before .before .before .if2 .left) (c .before .before .put-cell .ensures)
 
 pub repaint-cell-spec : {M : Type 1} → statement M
 repaint-cell-spec =
     tie.close
     (tie.spec
-    (λ c. search needs)
-    (λ c. search needs)
     (λ c κs. search needs)
     returns
+    (λ c. search needs)
     (λ c κs. search needs)
+    (λ c. search needs)
     (λ c κs. search needs)
     (λ c. search needs)
     (λ c. search needs)

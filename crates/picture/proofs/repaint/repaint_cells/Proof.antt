@@ -2,8 +2,10 @@ use Prim.Native.Nat.{_-_}
 use mathlib.Core.Path.{_∙_, sym}
 use mathlib.Core.Bool.{_&&_}
 use lib.ListN.{length}
+use Rattle.sets.specs.Sets.{isSearch}
+use Rattle.sets.proofs.Laws.{is-searched}
 use Rattle.picture.specs.Draw.{screen}
-use Rattle.picture.proofs.Changes.{both, alike-whole}
+use Rattle.picture.proofs.Changes.{both}
 use Rattle.picture.proofs.Sizes.{both-sized, repaint-left, sized-repaints}
 use Rattle.picture.proofs.Turns.{Reached, reached-first, reached-left, reached-listed, reached-all, screen-again}
 use borrow.Author.Needs.{needs}
@@ -11,61 +13,63 @@ use Rattle.picture.proofs.repaint.repaint_cells.Statement.{statement}
 use Rattle.picture.proofs.repaint.repaint_cells.Tie as tie
 
 abbrev Inv-loop : tie.InvT-loop
-Inv-loop picture₀ list₀ old new before after same font listed₀ cell₀ picture list listed cell = Reached (screen old before) (screen new after) font picture₀ list₀ cell picture list listed
+Inv-loop picture₀ list₀ old new sets before after same kept font by-sets₀ listed₀ cell₀ picture list listed cell = Reached (screen old before) (screen new after) font picture₀ list₀ cell picture list listed
 
 abbrev μ-loop : tie.MeasureT-loop
-μ-loop picture₀ list₀ old new before after same font listed₀ cell₀ picture list listed cell = 80 - cell
+μ-loop picture₀ list₀ old new sets before after same kept font by-sets₀ listed₀ cell₀ picture list listed cell = 80 - cell
 
 returns : tie.Need-returns Inv-loop μ-loop
 returns c =
     let a = c .before .before .before .before .before .before .before .args in
     let p = c .before .before .before .before .before .before .before .pre in
-    let f = c .before .alike-first in
-    repaint-left (screen (a .old .now) (a .before)) (screen (a .new .now) (a .after)) (a .font .now) (a .picture .now) (a .list .now) (a .same && f .result) (c .if1 .taken) (λ t.
-    let h = both (a .same) (f .result) t in
-    screen-again (a .old .now) (a .new .now) (a .before) (a .after) (a .font .now) (a .picture .now) (a .list .now) (alike-whole 80 (a .old .now) (a .new .now) (p .0) (p .1) (sym (f .ensures) ∙ h .1)) (p .2 (h .0)))
+    repaint-left (screen (a .old .now) (a .before)) (screen (a .new .now) (a .after)) (a .font .now) (a .picture .now) (a .list .now) (a .same && a .kept) (c .if1 .taken) (λ t.
+    let h = both (a .same) (a .kept) t in
+    screen-again (a .old .now) (a .new .now) (a .before) (a .after) (a .font .now) (a .picture .now) (a .list .now) (p .3 (h .1)) (p .2 (h .0)))
 
 loop-holds : tie.Need-loop-holds Inv-loop μ-loop
 loop-holds c =
-    let a = c .before .before .before .before .before .before .before .args in
-    let z = both-sized (length (a .picture .now)) (length (a .list .now)) _ (c .if1 .left) in
+    let a = c .before .before .before .before .before .before .before .before .args in
+    let z = both-sized (length (a .picture .now)) (length (a .list .now)) _ (c .before .if1 .left) in
     reached-first (screen (a .old .now) (a .before)) (screen (a .new .now) (a .after)) (a .font .now) (a .picture .now) (a .list .now) (z .0) (z .1)
 
 repaint-cell-requires : tie.Need-repaint-cell-requires Inv-loop μ-loop
 repaint-cell-requires c κs =
-    let p = c .before .before .before .before .before .before .before .before .before .before .pre in
-    (c .before .before .loop .inv .5, c .before .loop-test .taken, p .0, p .1, p .2)
+    let s = c .before .before .before .before .before .before .before .before .before .before .before in
+    let p = s .pre in
+    let serves = c .before .before .before .sets-serve .ensures in (
+      c .before .before .loop .inv .1,
+      c .before .loop-test .taken,
+      p .0,
+      p .1,
+      (p .2, λ t. let h = both (s .args .kept) (isSearch (s .args .new .now) (s .args .sets .now)) (sym serves ∙ t) in (p .3 (h .0), is-searched _ _ (h .1))),
+    )
 
 loop-again : tie.Need-loop-again Inv-loop μ-loop
 loop-again c =
-    let a = c .before .before .before .before .before .before .before .before .before .before .before .before .before .before .args in
+    let a = c .before .before .before .before .before .before .before .before .before .before .before .before .before .before .before .args in
     let l = c .before .before .before .before .before .before .loop in
     reached-left (screen (a .old .now) (a .before)) (screen (a .new .now) (a .after)) (a .font .now) (a .picture .now) (a .list .now) (l .cell) (l .picture) (l .list) (l .listed) _ _ (c .before .before .before .before .before .loop-test .taken) (c .before .before .before .repaint-cell .ensures) (l .inv) (c .if2 .taken)
 
 loop-again-2 : tie.Need-loop-again-2 Inv-loop μ-loop
 loop-again-2 c =
-    let a = c .before .before .before .before .before .before .before .before .before .before .before .before .before .before .args in
+    let a = c .before .before .before .before .before .before .before .before .before .before .before .before .before .before .before .args in
     let l = c .before .before .before .before .before .before .loop in
-    let z = both-sized (length (a .picture .now)) (length (a .list .now)) _ (c .before .before .before .before .before .before .before .if1 .left) in
-    reached-listed (screen (a .old .now) (a .before)) (screen (a .new .now) (a .after)) (a .font .now) (a .picture .now) (a .list .now) (l .cell) (l .picture) (l .list) (l .listed) _ _ (c .before .before .before .before .before .loop-test .taken) (c .before .before .before .repaint-cell .ensures) (l .inv) (z .1) (c .if2 .left)
+    reached-listed (screen (a .old .now) (a .before)) (screen (a .new .now) (a .after)) (a .font .now) (a .picture .now) (a .list .now) (l .cell) (l .picture) (l .list) (l .listed) _ _ (c .before .before .before .before .before .loop-test .taken) (c .before .before .before .repaint-cell .ensures) (l .inv) (c .if2 .left)
 
 same-length : tie.Need-same-length Inv-loop μ-loop
 same-length c =
-    let a = c .before .before .before .before .before .before .before .before .before .args in
-    let z = both-sized (length (a .picture .now)) (length (a .list .now)) _ (c .before .before .if1 .left) in
-    c .before .loop .inv .5 ∙ sym (z .0)
+    let a = c .before .before .before .before .before .before .before .before .before .before .args in
+    let z = both-sized (length (a .picture .now)) (length (a .list .now)) _ (c .before .before .before .if1 .left) in
+    c .before .loop .inv .1 ∙ sym (z .0)
 
 same-length-2 : tie.Need-same-length-2 Inv-loop μ-loop
-same-length-2 c =
-    let a = c .before .before .before .before .before .before .before .before .before .args in
-    let z = both-sized (length (a .picture .now)) (length (a .list .now)) _ (c .before .before .if1 .left) in
-    c .before .loop .inv .6 ∙ sym (z .1)
+same-length-2 c = c .before .loop .inv .4 .3
 
 returns-2 : tie.Need-returns-2 Inv-loop μ-loop
 returns-2 c =
-    let a = c .before .before .before .before .before .before .before .before .before .args in
+    let a = c .before .before .before .before .before .before .before .before .before .before .args in
     let l = c .before .loop in
-    let z = both-sized (length (a .picture .now)) (length (a .list .now)) _ (c .before .before .if1 .left) in
+    let z = both-sized (length (a .picture .now)) (length (a .list .now)) _ (c .before .before .before .if1 .left) in
     sized-repaints (screen (a .old .now) (a .before)) (screen (a .new .now) (a .after)) (a .font .now) (a .picture .now) (a .list .now) _ _ _ (z .0) (z .1) (reached-all _ _ _ _ _ (l .cell) _ _ _ (c .loop-test .left) (l .inv))
 
 pub repaint-cells-spec : {M : Type 1} → statement M
@@ -74,8 +78,8 @@ repaint-cells-spec =
     (tie.spec
     Inv-loop
     μ-loop
-    (λ c κs. search needs)
     returns
+    (λ c κs. search needs)
     loop-holds
     repaint-cell-requires
     (λ c. search needs)
