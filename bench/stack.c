@@ -16,7 +16,7 @@ static uint8_t state[NAUPELYS_STATE], picture[NAUPELYS_PICTURE], font[NAUPELYS_F
 static uint8_t reply[NAUPELYS_REPLY], faults[NAUPELYS_REGISTER], said[NAUPELYS_SAID];
 static uint8_t piece[NAUPELYS_PIECE_MOST];
 static size_t piece_size;
-static uint8_t key, pin;
+static uint8_t key, pin, glyph;
 static bool flag;
 
 static void power_on(void)
@@ -38,6 +38,11 @@ static void press(void)
 static void move(void)
 {
     naupelys_pin(state, sizeof state, pin, flag, said);
+}
+
+static void ask(void)
+{
+    naupelys_symbol_cells(state, sizeof state, glyph, list, sizeof list, said);
 }
 
 /* What stands on the stack where nothing is called. */
@@ -126,7 +131,7 @@ static void line_of(size_t *most, uint8_t type, uint8_t length, const uint8_t *f
 int main(void)
 {
     static const uint8_t fronts[][3] = {{0, 0, 1}, {1, 3, 0}, {8, 18, 99}, {12, 3, 5}, {255, 255, 255}, {64, 1, 7}};
-    size_t power = 0, listen = 0, keys = 0, pins = 0;
+    size_t power = 0, listen = 0, keys = 0, pins = 0, cells = 0;
     base = depth(no_call);
     for (int i = 0; i < NAUPELYS_FONT; i++) {
         font[i] = (uint8_t)(i / 8 * 37 + i % 8 * 11);
@@ -161,6 +166,9 @@ int main(void)
             measure(&pins, move);
         }
     }
-    printf("power-on %zu line %zu key %zu pin %zu\n", power, listen, keys, pins);
+    for (glyph = 0; glyph < 9; glyph++) {
+        measure(&cells, ask);
+    }
+    printf("power-on %zu line %zu key %zu pin %zu cells %zu\n", power, listen, keys, pins, cells);
     return 0;
 }

@@ -1,6 +1,6 @@
-/* A session with the panel: power-on, a ping, a text write, a contrast that is out of range, a key and a pin.
+/* A session with the panel: power-on, a ping, a text write, a contrast that is out of range, a key, a pin and a symbol.
  *
- * Beside each call stands what document 01 says of it; panel.expected holds those lines, worked out by hand. */
+ * Beside each call stands what the papers say of it; panel.expected holds those lines, worked out by hand. */
 #include "naupelys.h"
 
 #include <stdio.h>
@@ -106,5 +106,17 @@ int main(void)
     show("pin 3", naupelys_pin(state, sizeof state, 3, true, said));
     printf("pins: last %u fell %u rose %u\n", state[NAUPELYS_STATE_PINS_LAST], state[NAUPELYS_STATE_PINS_FELL],
            state[NAUPELYS_STATE_PINS_ROSE]);
+
+    /* Codes 1 and 9 at column 5, row 1 both draw glyph 1, whose rows are 0 yet: cells 25 and 26 change. */
+    static const uint8_t symbols[] = {0x1F, 0x04, 0x05, 0x01, 0x01, 0x09, 0x34, 0x15};
+    send("symbols", symbols, sizeof symbols);
+
+    /* Before glyph 1 is redefined: the cells that it is on. There is no glyph 8. */
+    show("glyph 1", naupelys_symbol_cells(state, sizeof state, 1, list, sizeof list, said));
+    show("glyph 8", naupelys_symbol_cells(state, sizeof state, 8, list, sizeof list, said));
+
+    /* Command 9 redefines it, eight rows of 1: those cells are the ones that change. */
+    static const uint8_t glyph[] = {0x09, 0x09, 0x01, 0x01, 0x01, 0x01, 0x01, 0x01, 0x01, 0x01, 0x01, 0x2F, 0xB1};
+    send("glyph 1 redefined", glyph, sizeof glyph);
     return 0;
 }

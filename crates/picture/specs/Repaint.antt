@@ -45,6 +45,12 @@ Known old new sets before after same bySets = (same ≡ true → before ≡ afte
 abbrev pub DrawsAlike : Screen → Screen → ℕ → Type 0
 DrawsAlike before after cell = (font : List ℕ) → alike 8 (cellDrawn before font cell) (cellDrawn after font cell) ≡ true
 
+-- what `passed` promises: a cell that is passed over draws as it did; where the sets are asked, those whose glyph changed are looked at,
+-- and no others
+abbrev pub PassesOver : Screen → Screen → List ℕ → Bool → ℕ → Bool → Type 0
+PassesOver before after sets bySets cell r =
+    (bySets ≡ true → r ≡ glyphStays (getD sets cell 0) (before .glyphs) (after .glyphs)) × (r ≡ true → DrawsAlike before after cell)
+
 -- what the repaint of one cell promises: whether it draws as it did, and the picture with its eight bytes written if not
 abbrev pub RepaintsCell : ℕ → List ℕ → List ℕ → List ℕ → Bool → List ℕ → Type 0
 RepaintsCell cell was bytes picture r picture′ = (r ≡ alike 8 was bytes) × (picture′ ≡ (when r then picture else put cell bytes picture 8))

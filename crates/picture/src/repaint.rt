@@ -7,7 +7,7 @@ ghost use Rattle.lists.specs.Tests.{_=?_};
 ghost use Rattle.glyphs.specs.Source.{isSpecial};
 ghost use Rattle.sets.specs.Sets.{isSearch};
 ghost use Rattle.picture.specs.Draw.{cellDrawn, drawn, screen, screenOf};
-ghost use Rattle.picture.specs.Repaint.{alike, glyphStays, Known, DrawsAlike, RepaintsCell, RepaintsSized, DrawsAll};
+ghost use Rattle.picture.specs.Repaint.{alike, glyphStays, Known, PassesOver, RepaintsCell, RepaintsSized, DrawsAll};
 use crate::draw::draw;
 use crate::draw::put_cell;
 use glyphs::is_special;
@@ -80,7 +80,7 @@ fn passed(
     by_sets: bool,
 ) -> bool
     requires { ⌜ (cell < 80) × (length (now old) ≡ 80) × (length (now new) ≡ 80) × Known (now old) (now new) (now sets) before after same «by_sets» ⌝ }
-    ensures { λ r. ⌜ (r ≡ true → DrawsAlike (screen (now (old .entry)) before) (screen (now (new .entry)) after) cell) ⌝ }
+    ensures { λ r. ⌜ PassesOver (screen (now (old .entry)) before) (screen (now (new .entry)) after) (now (sets .entry)) «by_sets» cell r ⌝ }
 {
     if by_sets {
         return glyph_stays(sets[cell], before, after);

@@ -1,6 +1,6 @@
 use Prim.Native.Nat.{ℕ}
 use mathlib.Core.Path.{_≡_, sym, _∙_, ap}
-use mathlib.Core.Bool.{true}
+use mathlib.Core.Bool.{true, true≢false}
 use mathlib.Core.List.{List}
 use native.Mathlib.Omega.{arith}
 use lib.ListN.{length, getD, length-map}
@@ -40,17 +40,17 @@ glyph-stays-requires c κs =
     rw (cell-is s asked) (mark-small (getD (text s asked) (s .args .cell) 0))
 
 returns : tie.Need-returns
-returns c e font =
+returns c =
     let s = c .before .before .before .before .before .before in
     let a = s .args in
     let asked = c .before .before .if1 .taken in
-    rw (old-is s asked) (mark-alike (a .before) (a .after) font (getD (text s asked) (a .cell) 0) (rw (cell-is s asked) at (sym (c .glyph-stays .ensures) ∙ e)))
+    (λ _. c .glyph-stays .ensures, λ e font. rw (old-is s asked) (mark-alike (a .before) (a .after) font (getD (text s asked) (a .cell) 0) (rw (cell-is s asked) at (sym (c .glyph-stays .ensures) ∙ e))))
 
 returns-2 : tie.Need-returns-2
-returns-2 c e font =
+returns-2 c =
     let s = c .before .before .before .before .before .before .before in
     let a = s .args in
-    stays-alike (a .before) (a .after) font (getD (a .old .now) (a .cell) 0) (getD (a .new .now) (a .cell) 0) (a .same) (s .pre .3 .0) (sym (c .stays .ensures) ∙ e)
+    (λ t. absurd (true≢false (sym t ∙ c .before .before .before .if1 .left)), λ e font. stays-alike (a .before) (a .after) font (getD (a .old .now) (a .cell) 0) (getD (a .new .now) (a .cell) 0) (a .same) (s .pre .3 .0) (sym (c .stays .ensures) ∙ e))
 
 pub passed-spec : {M : Type 1} → statement M
 passed-spec =

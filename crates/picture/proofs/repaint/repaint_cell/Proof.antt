@@ -9,7 +9,7 @@ use Rattle.picture.proofs.repaint.repaint_cell.Tie as tie
 
 returns : tie.Need-returns
 unfolding when_then_else_
-returns c = (sym (c .before .passed .ensures (c .if1 .taken) (c .before .before .before .before .before .before .before .args .font .now)), refl)
+returns c = (sym (c .before .passed .ensures .1 (c .if1 .taken) (c .before .before .before .before .before .before .before .args .font .now)), refl)
 
 returns-2 : tie.Need-returns-2
 returns-2 c =
