@@ -1,7 +1,7 @@
 -- Laws of the numbers that pass a test: the list is rising and holds exactly those, and how a loop writes it.
 use Prim.Native.Nat.{ℕ, zero, suc, _+_, _<_, _≤_}
 use mathlib.Core.Path.{_≡_, refl, sym, _∙_, ap}
-use mathlib.Core.Logic.{_↔_, dite}
+use mathlib.Core.Logic.{_↔_, Iff·trans, dite}
 use mathlib.Core.Bool.{Bool, true, false, true≢false}
 use mathlib.Core.List.{List, [], _∷_, _++_}
 use native.Mathlib.Numerals.{add-one}
@@ -13,7 +13,7 @@ use Rattle.lists.specs.Tests.{when_then_else_}
 use Rattle.lists.specs.Runs.{front}
 use Rattle.lists.specs.Rising.{passing, ListedIn}
 use Rattle.lists.proofs.Laws.{when-either, when-true, when-false, front-more}
-use Rattle.lists.proofs.Fronts.{front-own}
+use Rattle.lists.proofs.Fronts.{front-listed, front-rising}
 
 -- A list of the numbers below n that pass the test: rising, nothing else in it, none missing.
 pub record Exact (test : ℕ → Bool) (n : ℕ) (l : List ℕ) : Type 0 where
@@ -94,18 +94,15 @@ module _ (test : ℕ → Bool) (n : ℕ) (list : List ℕ) where
   found = passing test n
 
   pub front-rises : (i j : ℕ) → i < j → j < length found → getD (front found list) i 0 < getD (front found list) j 0
-  front-rises i j h g = rw (front-own found list i (omega arith), front-own found list j g) (passing-rises test n .rises i j h g)
+  front-rises = front-rising found list (passing-rises test n .rises)
 
   pub front-exact : (x : ℕ) → ListedIn (front found list) (length found) x ↔ ((x < n) × (test x ≡ true))
-  front-exact x = (there, λ p. here (passing-rises test n .whole x (p .0) (p .1)))
-    where
-      there : ListedIn (front found list) (length found) x → (x < n) × (test x ≡ true)
-      there o =
-          let e : getD found (o .0) 0 ≡ x = sym (front-own found list (o .0) (o .1)) ∙ o .2 in
-          (rw e at (passing-rises test n .inside (o .0) (o .1)), rw e at (passing-rises test n .passes (o .0) (o .1)))
-
-      here : ListedIn found (length found) x → ListedIn (front found list) (length found) x
-      here o = (o .0, o .1, front-own found list (o .0) (o .1) ∙ o .2)
+  front-exact x =
+      let e = passing-rises test n in
+      Iff·trans (front-listed found list x) (
+        λ o. (rw (o .2) at (e .inside (o .0) (o .1)), rw (o .2) at (e .passes (o .0) (o .1))),
+        λ p. e .whole x (p .0) (p .1),
+      )
 
 -- how far a loop has come that writes them to the front of a list: those below n stand there
 abbrev pub Listing : (ℕ → Bool) → List ℕ → ℕ → List ℕ → ℕ → Type 0

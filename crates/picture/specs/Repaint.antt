@@ -20,10 +20,11 @@ alike (suc k) a b = alike k a b && (getD a k 0 =? getD b k 0)
 unfoldable pub same : Screen → Screen → List ℕ → ℕ → Bool
 same before after font cell = alike 8 (cellDrawn before font cell) (cellDrawn after font cell)
 
--- the cells that draw otherwise, rising
+-- whether it draws otherwise
 abbrev pub otherwise : Screen → Screen → List ℕ → ℕ → Bool
 otherwise before after font cell = not (same before after font cell)
 
+-- the cells that do, rising
 abbrev pub changed : Screen → Screen → List ℕ → List ℕ
 changed before after font = passing (otherwise before after font) cellCount
 

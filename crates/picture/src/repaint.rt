@@ -107,8 +107,10 @@ fn repaint_cell(
     if passed(cell, old, new, sets, before, after, same, by_sets) {
         return true;
     }
-    let was = draw(before, font, old[cell]);
-    let bytes = draw(after, font, new[cell]);
+    let a = old[cell];
+    let b = new[cell];
+    let was = draw(before, font, a);
+    let bytes = draw(after, font, b);
     if alike_first(&was, &bytes, 8) {
         true
     } else {

@@ -39,7 +39,7 @@ use Rattle.listen.specs.Listen.{answerIn, heardOf, heardReply}
 use Rattle.perform.specs.Commands.{carried}
 use Rattle.perform.specs.Perform.{shownBy, replyLength, replyWritten}
 use Rattle.linecall.specs.Line.{Lent, lineHeard, lineDone, bodyAfter, altered, saidWith, lineSaid, linePicture, lineList, lineReply, filesAfter, LineCall}
-use Rattle.lists.proofs.Fronts.{front-own, front-behind}
+use Rattle.lists.proofs.Fronts.{front-behind, front-listed, front-rising}
 use Rattle.theorems.proofs.Outcomes.{scanOf, replyHeard, Outcome, turned-away, waits, finds, strays, does, refuses, outcome}
 
 -- the line's part after a piece is heard
@@ -320,12 +320,10 @@ module _ (p : Panel) (l : Lent) (register : List Record) (r : Said) (picture′ 
 
   -- a cell is in the list as written if it is in the list as defined, and the other way round
   written-listed : (cell : ℕ) → ListedIn list′ (r .listed) cell → Listed (shownBy (p .body)) (shownBy (bodyAfter p l)) (l .font) cell
-  written-listed cell o =
-      let k = rw listed-is at (o .1) in
-      (o .0, k, sym (front-own (altered p l) (l .list) (o .0) k) ∙ ap (λ (x : List ℕ). getD x (o .0) 0) (sym (called .2)) ∙ o .2)
+  written-listed cell o = front-listed (altered p l) (l .list) cell .0 (rw (called .2, listed-is) at o)
 
   listed-written : (cell : ℕ) → Listed (shownBy (p .body)) (shownBy (bodyAfter p l)) (l .font) cell → ListedIn list′ (r .listed) cell
-  listed-written cell o = (o .0, rw listed-is (o .1), ap (λ (x : List ℕ). getD x (o .0) 0) (called .2) ∙ front-own (altered p l) (l .list) (o .0) (o .1) ∙ o .2)
+  listed-written cell o = rw (called .2, listed-is) (front-listed (altered p l) (l .list) cell .1 o)
 
   -- a call is refused by number, and then leaves picture and list, or the picture has its size
   sized : {P : Type 0} → (length (l .picture) ≡ 640 → P) → (Left p l → P) → P
@@ -340,9 +338,7 @@ module _ (p : Panel) (l : Lent) (register : List Record) (r : Said) (picture′ 
   -- The list is rising, so that each cell stands in it once,
   pub list-rises : (i j : ℕ) → i < j → j < r .listed → getD list′ i 0 < getD list′ j 0
   list-rises i j h g =
-      let o = altered p l in
-      let k = rw listed-is at g in
-      rw (called .2, front-own o (l .list) i (omega arith), front-own o (l .list) j k) (listed-rises (shownBy (p .body)) (shownBy (bodyAfter p l)) (l .font) i j h k)
+      rw (called .2) (front-rising (altered p l) (l .list) (listed-rises (shownBy (p .body)) (shownBy (bodyAfter p l)) (l .font)) i j h (rw listed-is at g))
 
   -- and it holds exactly the cells, below 80, whose drawings before and after the call differ.
   pub list-is-the-change : (cell : ℕ) → ListedIn list′ (r .listed) cell ↔ ((cell < 80) × (cellDrawn (shownBy (p .body)) (l .font) cell ≢ cellDrawn (shownBy (r .panel .body)) (l .font) cell))

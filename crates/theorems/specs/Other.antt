@@ -2,7 +2,9 @@
 use Prim.Native.Nat.{ℕ}
 use mathlib.Core.Bool.{Bool}
 use mathlib.Core.List.{List}
+use Rattle.packets.specs.Packet.{replySize}
 use Rattle.panel.specs.declared.Panel.{Panel}
+use Rattle.panel.specs.State.{codeCount}
 use Rattle.answers.specs.declared.Said.{Said}
 use Rattle.events.specs.Keys.{Presses}
 use Rattle.events.specs.Pins.{Moves}
@@ -16,9 +18,9 @@ pub data Other : Type 0 where
 
 -- the size of the buffer that a call wants: a reply buffer for a key, a list for the cells; a pin call leaves any as it is
 abbrev pub roomFor : Other → ℕ
-roomFor (key number down) = 26
-roomFor (pin number high) = 26
-roomFor (cells glyph) = 80
+roomFor (key number down) = replySize
+roomFor (pin number high) = replySize
+roomFor (cells glyph) = codeCount
 
 -- Answers c p out r out′: on the panel p the call c, lent the buffer out, may say r and leave the buffer as out′; a pin call is lent
 -- none

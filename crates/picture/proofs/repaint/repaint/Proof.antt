@@ -24,7 +24,7 @@ module _ (s : tie.Start) where
   new-rows = length-unmapped ℕ (s .args .after .glyphs) 64 (s .good .1 .1 .1 .0 .1 .1 .1 .0 .1 .0 .1)
 
 alike-first-requires : tie.Need-alike-first-requires
-alike-first-requires c κs = let s = c .before .before .before .before .before .before .before .before .before in (omega (arith, old-rows s), omega (arith, new-rows s))
+alike-first-requires c κs = let s = c .before .before .before .before .before .before .before .before .before in (omega (arith, old-rows s, new-rows s), omega (arith, old-rows s, new-rows s))
 
 alike-first-requires-2 : tie.Need-alike-first-requires-2
 alike-first-requires-2 c κs = let s = c .before .before .before .before .before .before .before .before .before .before .before .before in (omega (arith, old-codes s), omega (arith, new-codes s))
