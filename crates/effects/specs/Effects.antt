@@ -1,7 +1,6 @@
 -- What each command does to the body: a function of the body and the packet's code and data alone.
 use Prim.Native.Nat.{ℕ, _+_, _*_, _%_}
 use mathlib.Core.Path.{_≡_}
-use mathlib.Core.Bool.{Bool, _||_}
 use mathlib.Core.List.{List}
 use lib.ListN.{length, getD, drop, set, replicate}
 use Rattle.lists.specs.Tests.{when_then_else_, _=?_}
@@ -18,7 +17,7 @@ use Rattle.panel.specs.declared.Settings.{Settings}
 use Rattle.panel.specs.declared.Keys.{Keys}
 use Rattle.panel.specs.declared.Pins.{Pins}
 use Rattle.panel.specs.declared.Body.{Body}
-use Rattle.panel.specs.State.{withStyle, withContrast, withBacklight, withLive, withKeys, withPins, withSets}
+use Rattle.panel.specs.State.{withStyle, withContrast, withBacklight, withLive, withText, withKeys, withPins}
 use Rattle.sets.specs.Sets.{searched}
 use Rattle.glyphs.specs.Glyphs.{eightFrom, glyphsWith}
 
@@ -35,7 +34,7 @@ abbrev pub polled : Keys → Keys
 polled k = record { down = k .down; pressed = 0; released = 0 }
 
 -- 5: "Reboot brings it back and clears poll bytes and edges. Flash, held bytes, keys down, last pin levels, the register
--- and the unfiled number stay."
+-- and the unfiled number stay." The text that comes back brings its sets with it (document 02, order 4).
 abbrev pub rebooted : Body → Body
 rebooted b =
     record {
@@ -44,7 +43,7 @@ rebooted b =
       keys = polled (b .keys);
       pins = record { last = b .pins .last; fell = 0; rose = 0 };
       flash = b .flash;
-      sets = b .sets;
+      sets = searched (b .boot .shown .text);
     }
 
 -- settings with another group
@@ -102,41 +101,30 @@ pinSet w d =
 abbrev pub pinRead : Pins → List ℕ → Pins
 pinRead p d = record { last = p .last; fell = withoutBit (p .fell) (getD d 0 0); rose = withoutBit (p .rose) (getD d 0 0) }
 
--- the column "does" of the table, of the commands that change the live settings alone
+-- the column "does" of the table, of the commands that change the live settings alone, and no text
 unfoldable pub liveAfter : ℕ → List ℕ → Settings → Settings
 liveAfter code d s =
-    when code =? 6 then cleared s
-    else when code =? 9 then withShown s (glyphSet (s .shown) d)
+    when code =? 9 then withShown s (glyphSet (s .shown) d)
     else when code =? 11 then withCursor s (cursorAt d)
     else when code =? 12 then withDials s (withStyle (s .dials) (getD d 0 0))
     else when code =? 13 then withDials s (withContrast (s .dials) (getD d 0 0))
     else when code =? 14 then withDials s (withBacklight (s .dials) (getD d 0 0))
     else when code =? 23 then withMasks s (masksGiven d)
-    else when code =? 31 then withShown s (textWritten (s .shown) d)
     else when code =? 34 then withWires s (pinSet (s .wires) d)
     else s
 
--- the same column for the whole body but its sets; commands 0, 1, 3 and 10 change nothing
-unfoldable pub butSets : ℕ → List ℕ → Body → Body
-butSets code d b =
+-- the same column for the whole body; commands 0, 1, 3 and 10 change nothing. A text that is written brings its sets with it: "After
+-- any calls each set equals what a search of the text finds" (document 02, order 4).
+unfoldable pub effect : ℕ → List ℕ → Body → Body
+effect code d b =
     when code =? 2 then withFlash b d
     else when code =? 4 then stored b
     else when code =? 5 then rebooted b
+    else when code =? 6 then withText b (cleared (b .live))
     else when code =? 24 then withKeys b (polled (b .keys))
+    else when code =? 31 then withText b (withShown (b .live) (textWritten (b .live .shown) d))
     else when code =? 35 then withPins b (pinRead (b .pins) d)
     else withLive b (liveAfter code d (b .live))
-
--- the commands that change the live text: a reboot, which may bring another one back, a clear and a text
-abbrev pub changesText : ℕ → Bool
-changesText code = (code =? 5) || (code =? 6) || (code =? 31)
-
--- the sets as a search of the live text finds them
-abbrev pub setsSearched : Body → Body
-setsSearched b = withSets b (searched (b .live .shown .text))
-
--- what a command does: "After any calls each set equals what a search of the text finds" (document 02, order 4)
-unfoldable pub effect : ℕ → List ℕ → Body → Body
-effect code d b = when changesText code then setsSearched (butSets code d b) else butSets code d b
 
 -- what `effect_of` promises, of the command that the packet's low six type bits name
 abbrev pub Affects : Body → Packet → Body → Type 0

@@ -1,7 +1,7 @@
 // What a command does to the body. Past the end of its data a command reads zeros.
 ghost use mathlib.Core.Path.{_≡_};
 ghost use lib.ListN.{set};
-ghost use Rattle.effects.specs.Effects.{withFlash, stored, polled, rebooted, cleared, glyphSet, textWritten, pinSet, pinRead, liveAfter, butSets, changesText, setsSearched, Affects};
+ghost use Rattle.effects.specs.Effects.{withFlash, stored, polled, rebooted, cleared, glyphSet, textWritten, pinSet, pinRead, liveAfter, effect, Affects};
 use packets::CONTENT;
 use packets::Packet;
 use panel::Body;
@@ -44,8 +44,11 @@ fn reboot(mut b: Body) -> Body
     ensures { λ r. ⌜ r ≡ rebooted b ⌝ }
 {
     let live = b.boot;
+    let stored = live.shown.text;
+    let sets = sets::search(stored);
     let keys = poll(b.keys);
     b.live = live;
+    b.sets = sets;
     b.keys = keys;
     b.pins.fell = 0;
     b.pins.rose = 0;
@@ -130,14 +133,13 @@ fn read_pin(mut p: Pins, content: &[u8]) -> Pins
     p
 }
 
-// The live settings after a command; most commands change nothing else.
+// The live settings after a command that changes no text; most commands change nothing else.
 fn live_after(mut live: Settings, code: u8, content: &[u8]) -> Settings
     ensures { λ r. ⌜ r ≡ liveAfter code (now (content .entry)) live ⌝ }
 {
     let first = lists::at(content, 0);
     let second = lists::at(content, 1);
     match code {
-        6 => clear(live),
         9 => {
             let shown = set_glyph(live.shown, content);
             live.shown = shown;
@@ -165,11 +167,6 @@ fn live_after(mut live: Settings, code: u8, content: &[u8]) -> Settings
             live.masks.release = second;
             live
         }
-        31 => {
-            let shown = write_text(live.shown, content);
-            live.shown = shown;
-            live
-        }
         34 => {
             let wires = set_pin(live.wires, content);
             live.wires = wires;
@@ -179,17 +176,35 @@ fn live_after(mut live: Settings, code: u8, content: &[u8]) -> Settings
     }
 }
 
-// The body after a command, with the sets as they were.
+// Those that change the live text search it for its sets: whoever shows another text does.
 fn body_after(mut b: Body, code: u8, content: &[u8]) -> Body
-    ensures { λ r. ⌜ r ≡ butSets code (now (content .entry)) b ⌝ }
+    ensures { λ r. ⌜ r ≡ effect code (now (content .entry)) b ⌝ }
 {
     match code {
         2 => write_flash(b, content),
         4 => store(b),
         5 => reboot(b),
+        6 => {
+            let live = clear(b.live);
+            let blank = live.shown.text;
+            let sets = sets::search(blank);
+            b.live = live;
+            b.sets = sets;
+            b
+        }
         24 => {
             let keys = poll(b.keys);
             b.keys = keys;
+            b
+        }
+        31 => {
+            let mut live = b.live;
+            let shown = write_text(live.shown, content);
+            let written = shown.text;
+            let sets = sets::search(written);
+            live.shown = shown;
+            b.live = live;
+            b.sets = sets;
             b
         }
         35 => {
@@ -205,23 +220,6 @@ fn body_after(mut b: Body, code: u8, content: &[u8]) -> Body
     }
 }
 
-// Whether a command changes the live text: 5 may bring another one back.
-fn changes_text(code: u8) -> bool
-    ensures { λ r. ⌜ r ≡ changesText code ⌝ }
-{
-    (code == 5) | (code == 6) | (code == 31)
-}
-
-// The sets of the text as it is now.
-fn search_sets(mut b: Body) -> Body
-    ensures { λ r. ⌜ r ≡ setsSearched b ⌝ }
-{
-    let text = b.live.shown.text;
-    let sets = sets::search(text);
-    b.sets = sets;
-    b
-}
-
 // The body after the command that the low six type bits name. Whether the panel allows it is for the verdict to say.
 pub fn effect_of(b: Body, p: Packet) -> Body
     ensures { λ r. ⌜ Affects b p r ⌝ }
@@ -229,9 +227,5 @@ pub fn effect_of(b: Body, p: Packet) -> Body
     let code = p.kind % 64;
     let bytes = p.content;
     let n = lists::at_most(p.length, CONTENT);
-    let after = body_after(b, code, &bytes[..n]);
-    if changes_text(code) {
-        return search_sets(after);
-    }
-    after
+    body_after(b, code, &bytes[..n])
 }

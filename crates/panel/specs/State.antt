@@ -1,7 +1,7 @@
 -- How the panel starts; dials, a body, a panel and its line with another part.
 use Prim.Native.Nat.{ℕ}
 use mathlib.Core.Path.{_≡_}
-use mathlib.Core.List.{List, [], _∷_}
+use mathlib.Core.List.{[], _∷_}
 use lib.ListN.{replicate}
 use Rattle.packets.specs.declared.Hold.{Hold}
 use Rattle.packets.specs.Hold.{holdOf}
@@ -83,8 +83,9 @@ withBacklight d backlight = record { style = d .style; contrast = d .contrast; b
 abbrev pub withLive : Body → Settings → Body
 withLive b s = record { live = s; boot = b .boot; keys = b .keys; pins = b .pins; flash = b .flash; sets = b .sets }
 
-abbrev pub withSets : Body → List ℕ → Body
-withSets b sets = record { live = b .live; boot = b .boot; keys = b .keys; pins = b .pins; flash = b .flash; sets = sets }
+-- live settings of another text, and the sets as a search of it finds them
+abbrev pub withText : Body → Settings → Body
+withText b s = record { live = s; boot = b .boot; keys = b .keys; pins = b .pins; flash = b .flash; sets = searched (s .shown .text) }
 
 abbrev pub withKeys : Body → Keys → Body
 withKeys b k = record { live = b .live; boot = b .boot; keys = k; pins = b .pins; flash = b .flash; sets = b .sets }

@@ -1,7 +1,7 @@
 -- What an allowed command leaves is in its ranges.
 use Prim.Native.Nat.{ℕ, _<_, _≤_}
-use mathlib.Core.Path.{_≡_, refl, sym, _∙_, ap}
-use mathlib.Core.Bool.{true, and-eq-true-iff, false, true≢false}
+use mathlib.Core.Path.{_≡_, refl}
+use mathlib.Core.Bool.{true, and-eq-true-iff}
 use mathlib.Core.List.{List}
 use native.Mathlib.Omega.{arith}
 use lib.ListN.{length, getD}
@@ -29,9 +29,9 @@ use Rattle.panel.specs.State.{withStyle, withContrast, withBacklight}
 use Rattle.ranges.specs.Ranges.{configsInRange, cursorInRange, dialsInRange, masksInRange, settingsInRange, keysInRange, pinsInRange, setsInRange, inRanges}
 use Rattle.sets.proofs.Laws.{search-is}
 use Rattle.ranges.proofs.InRange.{kept, SettingsParts, settings-parts, settings-whole, keys-parts, keys-whole, pins-parts, pins-whole, panel-parts}
-use Rattle.effects.specs.Effects.{polled, withShown, withCursor, withDials, withMasks, withWires, cleared, glyphSet, cursorAt, masksGiven, pinSet, pinRead, liveAfter, butSets, changesText, effect}
+use Rattle.effects.specs.Effects.{polled, withShown, withCursor, withDials, withMasks, withWires, cleared, glyphSet, cursorAt, masksGiven, textWritten, pinSet, pinRead, liveAfter, effect}
 use Rattle.theorems.proofs.Allowed.{Sound, allowed}
-use Rattle.theorems.proofs.Rows.{live-rows, body-rows}
+use Rattle.theorems.proofs.Rows.{live-rows, effect-rows}
 
 -- a body whose values are in their ranges
 pub record BodyInRange (b : Body) : Type 0 where
@@ -136,49 +136,35 @@ module _ (code : ℕ) (d : List ℕ) (v : verdictOf code d ≡ Allowed) where
   live-in-range : (s : Settings) → settingsInRange s ≡ true → settingsInRange (liveAfter code d s) ≡ true
   live-in-range s h =
       live-rows code d (λ (x : Settings). settingsInRange x ≡ true) s
-      (λ _. cleared-in-range s h)
       (λ e. glyph-in-range s h d (allowed code d v 9 e))
       (λ e. cursor-in-range s h d (allowed code d v 11 e))
       (λ e. style-in-range s h d (allowed code d v 12 e))
       (λ e. contrast-in-range s h d (allowed code d v 13 e))
       (λ e. backlight-in-range s h d (allowed code d v 14 e))
       (λ e. masks-in-range s h d (allowed code d v 23 e))
-      (λ _. h)
       (λ e. pin-in-range s h d (allowed code d v 34 e))
       h
 
-  -- a command that is not one of the three changes no text
-  no-text : (c : ℕ) → changesText c ≡ true → changesText code ≡ false → (code =? c) ≡ true → ⊥
-  no-text c t n e = true≢false (sym t ∙ ap changesText (sym (eqb-true code c e)) ∙ n)
+  -- no text is changed by the commands that leave the sets as they are
+  live-text : (s : Settings) → liveAfter code d s .shown .text ≡ s .shown .text
+  live-text s = live-rows code d (λ (x : Settings). x .shown .text ≡ s .shown .text) s (λ _. refl) (λ _. refl) (λ _. refl) (λ _. refl) (λ _. refl) (λ _. refl) (λ _. refl) refl
 
-  live-text : (s : Settings) → changesText code ≡ false → liveAfter code d s .shown .text ≡ s .shown .text
-  live-text s n =
-      live-rows code d (λ (x : Settings). x .shown .text ≡ s .shown .text) s (λ e. absurd (no-text 6 refl n e)) (λ _. refl) (λ _. refl) (λ _. refl) (λ _. refl) (λ _. refl) (λ _. refl) (λ e. absurd (no-text 31 refl n e)) (λ _. refl) refl
-
-  -- and leaves the sets right
-  sets-stay : (b : Body) → changesText code ≡ false → setsInRange b ≡ true → setsInRange (butSets code d b) ≡ true
-  sets-stay b n h = body-rows code d (λ (x : Body). setsInRange x ≡ true) b h h (λ e. absurd (no-text 5 refl n e)) h h (rw (live-text (b .live) n) h)
-
-  -- the ranges of all but the sets
-  abbrev OthersInRange : Body → Type 0
-  OthersInRange x = (settingsInRange (x .live) ≡ true) × (settingsInRange (x .boot) ≡ true) × (keysInRange (x .keys) ≡ true) × (pinsInRange (x .pins) ≡ true)
-
-  others-stay : (b : Body) → BodyInRange b → OthersInRange (butSets code d b)
-  others-stay b h =
-      let polls = polled-in-range (b .keys) (h .keys) in
-      body-rows code d OthersInRange b
-      (h .live, h .boot, h .keys, h .pins)
-      (h .live, h .live, h .keys, h .pins)
-      (λ _. (h .boot, h .boot, polls, edges-cleared (b .pins) (h .pins)))
-      (h .live, h .boot, polls, h .pins)
-      (h .live, h .boot, h .keys, pin-read-in-range (b .pins) d (h .pins))
-      (live-in-range (b .live) (h .live), h .boot, h .keys, h .pins)
-
-  -- A command that the verdict allows takes a body in its ranges to such a body: the sets of a text that it changes are searched for.
+  -- A command that the verdict allows takes a body in its ranges to such a body; the sets of another text are those that are searched for.
   pub effect-stays-in-range : (b : Body) → BodyInRange b → BodyInRange (effect code d b)
-  unfolding effect
   effect-stays-in-range b h =
-      let q = others-stay b h in
-      when-either BodyInRange (changesText code) _ _
-      (λ _. record { live = q .0; boot = q .1; keys = q .2; pins = q .3; sets = search-is (butSets code d b .live .shown .text) })
-      (λ n. record { live = q .0; boot = q .1; keys = q .2; pins = q .3; sets = sets-stay b n (h .sets) })
+      let polls = polled-in-range (b .keys) (h .keys) in
+      effect-rows code d BodyInRange b
+      record { live = h .live; boot = h .boot; keys = h .keys; pins = h .pins; sets = h .sets }
+      record { live = h .live; boot = h .live; keys = h .keys; pins = h .pins; sets = h .sets }
+      record { live = h .boot; boot = h .boot; keys = polls; pins = edges-cleared (b .pins) (h .pins); sets = search-is (b .boot .shown .text) }
+      record { live = cleared-in-range (b .live) (h .live); boot = h .boot; keys = h .keys; pins = h .pins; sets = search-is (cleared (b .live) .shown .text) }
+      record { live = h .live; boot = h .boot; keys = polls; pins = h .pins; sets = h .sets }
+      record {
+        live = with-shown (b .live) (h .live) (textWritten (b .live .shown) d) (settings-parts (b .live) (h .live) .glyphs);
+        boot = h .boot;
+        keys = h .keys;
+        pins = h .pins;
+        sets = search-is (textWritten (b .live .shown) d .text);
+      }
+      record { live = h .live; boot = h .boot; keys = h .keys; pins = pin-read-in-range (b .pins) d (h .pins); sets = h .sets }
+      record { live = live-in-range (b .live) (h .live); boot = h .boot; keys = h .keys; pins = h .pins; sets = rw (live-text (b .live)) (h .sets) }

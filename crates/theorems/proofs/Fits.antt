@@ -20,12 +20,12 @@ use Rattle.panel.specs.declared.Settings.{Settings}
 use Rattle.panel.specs.declared.Body.{Body}
 use Rattle.panel.specs.declared.Line.{Line}
 use Rattle.panel.specs.declared.Panel.{Panel}
-use Rattle.panel.specs.State.{lineHolding}
+use Rattle.panel.specs.State.{withText, lineHolding}
+use Rattle.sets.specs.Sets.{markOf}
 use Rattle.answers.specs.declared.Said.{Said}
 use Rattle.answers.specs.Answer.{filingOf, refusedCall}
 use Rattle.answers.proofs.Checks.{refused-by, accepted-by, either-way}
-use Rattle.sets.specs.Sets.{markOf}
-use Rattle.effects.specs.Effects.{liveAfter, butSets, changesText, effect}
+use Rattle.effects.specs.Effects.{withShown, cleared, textWritten, liveAfter, effect}
 use Rattle.perform.specs.Commands.{carried}
 use Rattle.linecall.specs.Line.{Lent, lineHeard, LineCall}
 use Rattle.shapes.specs.Shape.{Fits}
@@ -33,7 +33,7 @@ use Rattle.statebytes.specs.Layout.{lineShape, lineParts, settingsShape, settin
 use Rattle.statebytes.specs.State.{PanelFits}
 use Rattle.statebytes.proofs.Theorems.{holding-fits, unfiled-fits, with-unfiled-fits}
 use Rattle.theorems.specs.Other.{Other, Answers}
-use Rattle.theorems.proofs.Rows.{live-rows, body-rows}
+use Rattle.theorems.proofs.Rows.{live-rows, effect-rows}
 use Rattle.theorems.proofs.Others.{tests, accepted, by-row, row-fits}
 use Rattle.theorems.proofs.Outcomes.{scanOf}
 use Rattle.theorems.proofs.Lines.{after-body, heard-line, line-files}
@@ -44,37 +44,32 @@ module _ (code : ℕ) (d : List ℕ) where
   unfolding flatOf
   live-fits s h =
       live-rows code d (λ (x : Settings). Fits settingsShape (settingsParts x)) s
-      (λ _. ((refl, h .0 .1), h .1))
       (λ _. ((h .0 .0, length-flat 8 _), h .1))
       (λ _. h)
       (λ _. h)
       (λ _. h)
       (λ _. h)
       (λ _. h)
-      (λ _. ((length-pasted (s .shown .text) _ _ ∙ h .0 .0, h .0 .1), h .1))
       (λ _.
       let w = h .1 .1 .1 .1 in
       (h .0, (h .1 .0, (h .1 .1 .0, (h .1 .1 .1 .0, (length-set (s .wires .levels) _ _ ∙ w .0, when-either (λ (l : List ℕ). length l ≡ 5) (length d =? 3) _ _ (λ _. length-set (s .wires .configs) _ _ ∙ w .1) (λ _. w .1)))))))
       h
 
-  body-fits : (b : Body) → Fits bodyShape (bodyParts b) → Fits bodyShape (bodyParts (butSets code d b))
-  body-fits b h =
-      body-rows code d (λ (x : Body). Fits bodyShape (bodyParts x)) b
+  -- another text has as many codes, and so many bytes of sets
+  text-fits : (b : Body) (s : Settings) → Fits settingsShape (settingsParts s) → Fits bodyShape (bodyParts b) → Fits bodyShape (bodyParts (withText b s))
+  text-fits b s l h = (l, (h .1 .0, (h .1 .1 .0, (h .1 .1 .1 .0, (h .1 .1 .1 .1 .0, length-map (s .shown .text) markOf ∙ l .0 .0)))))
+
+  effect-fits : (b : Body) → Fits bodyShape (bodyParts b) → Fits bodyShape (bodyParts (effect code d b))
+  effect-fits b h =
+      effect-rows code d (λ (x : Body). Fits bodyShape (bodyParts x)) b
       (h .0, (h .1 .0, (h .1 .1 .0, (h .1 .1 .1 .0, (length-pasted (b .flash) 0 d ∙ h .1 .1 .1 .1 .0, h .1 .1 .1 .1 .1)))))
       (h .0, (h .0, h .1 .1))
-      (λ _. (h .1 .0, (h .1 .0, h .1 .1)))
+      (text-fits b (b .boot) (h .1 .0) h)
+      (text-fits b (cleared (b .live)) ((refl, h .0 .0 .1), h .0 .1) h)
       h
+      (text-fits b (withShown (b .live) (textWritten (b .live .shown) d)) ((length-pasted (b .live .shown .text) _ _ ∙ h .0 .0 .0, h .0 .0 .1), h .0 .1) h)
       h
       (live-fits (b .live) (h .0), h .1)
-
-  -- there are as many bytes of sets as the text has codes
-  effect-fits : (b : Body) → Fits bodyShape (bodyParts b) → Fits bodyShape (bodyParts (effect code d b))
-  unfolding effect
-  effect-fits b h =
-      let q = body-fits b h in
-      when-either (λ (x : Body). Fits bodyShape (bodyParts x)) (changesText code) _ _
-      (λ _. (q .0, (q .1 .0, (q .1 .1 .0, (q .1 .1 .1 .0, (q .1 .1 .1 .1 .0, length-map (butSets code d b .live .shown .text) markOf ∙ q .0 .0 .0))))))
-      (λ _. q)
 
 -- what is held after a call has at most 25 bytes
 held-fits : (p : Panel) (l : Lent) → Fits lineShape (lineParts (p .line)) → Fits lineShape (lineParts (lineHolding (p .line) (scanOf p l .hold)))

@@ -17,7 +17,7 @@ use Rattle.glyphs.specs.Source.{sourceOf}
 use Rattle.sets.specs.Sets.{markFor, searchedBelow, isSearch}
 use Rattle.panel.specs.State.{factorySettings, poweredOn}
 use Rattle.ranges.specs.Ranges.{allOf, cursorInRange, dialsInRange, masksInRange, partsInRange, keysInRange, pinsInRange, inRanges}
-use Rattle.effects.specs.Effects.{liveAfter, butSets, effect}
+use Rattle.effects.specs.Effects.{liveAfter, effect}
 use Rattle.replies.specs.Replies.{memory, edges, replyData}
 use Rattle.perform.specs.Commands.{carried}
 use Rattle.picture.specs.Draw.{drawnFrom, codeDrawn}
@@ -29,5 +29,5 @@ use Rattle.listen.specs.Listen.{answerIn, listened, listenedReply}
 use Rattle.theorems.specs.Worked.{told, piecesOf, expectedOf, workedCases}
 
 pub all-said : map (λ c. told poweredOn (piecesOf c)) workedCases ≡ map expectedOf workedCases
-unfolding when_then_else_ allOf all firstBelow pasted isOn withoutBit afterBit afterByte composedLength composed checksumRight judge settleAt settle goOn scan scannedOf lookUp configAllowed inRange firstOut isReboot wholeVerdict verdictBy nestedOf flatFirst flatOf factorySettings poweredOn cursorInRange dialsInRange masksInRange partsInRange keysInRange pinsInRange markFor searchedBelow isSearch inRanges liveAfter butSets effect memory edges replyData carried sourceOf drawnFrom codeDrawn same passing checkNumber numbersOf isDone decided ruling answerTo refusedLength refusedReply answerIn listened listenedReply told
+unfolding when_then_else_ allOf all firstBelow pasted isOn withoutBit afterBit afterByte composedLength composed checksumRight judge settleAt settle goOn scan scannedOf lookUp configAllowed inRange firstOut isReboot wholeVerdict verdictBy nestedOf flatFirst flatOf factorySettings poweredOn cursorInRange dialsInRange masksInRange partsInRange keysInRange pinsInRange markFor searchedBelow isSearch inRanges liveAfter effect memory edges replyData carried sourceOf drawnFrom codeDrawn same passing checkNumber numbersOf isDone decided ruling answerTo refusedLength refusedReply answerIn listened listenedReply told
 all-said = refl

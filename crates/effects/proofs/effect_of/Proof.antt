@@ -1,9 +1,7 @@
-use Prim.Native.Nat.{ℕ, _%_}
-use mathlib.Core.Path.{_≡_, sym, _∙_, ap}
+use Prim.Native.Nat.{ℕ}
+use mathlib.Core.Path.{_≡_, _∙_}
 use lib.ListN.{length, length-take}
-use Rattle.lists.proofs.Laws.{when-true, when-false, take-limited}
-use Rattle.packets.specs.Packet.{contentOf}
-use Rattle.effects.specs.Effects.{butSets, setsSearched, effect}
+use Rattle.lists.proofs.Laws.{take-limited}
 use native.Mathlib.Omega.{arith}
 use borrow.Author.Needs.{needs, length-unmapped}
 use Rattle.effects.proofs.effect_of.Statement.{statement}
@@ -18,34 +16,13 @@ array-share-prefix-bytes c = omega (arith, given (c .before .before .before), c 
 slice-aggregate-body-after : tie.Need-slice-aggregate-body-after
 slice-aggregate-body-after c = simp length-take (omega (arith, given (c .before .before .before .before), c .before .at-most .ensures))
 
--- the body after the command, but for its sets
-did : (c : tie.After-body-after) → (let p = c .before .before .before .before .before .args .p in c .body-after .result ≡ butSets (p .kind % 64) (contentOf p) (c .before .before .before .before .before .args .b))
-did c =
+returns : tie.Need-returns
+returns c =
     let s = c .before .before .before .before .before in
     let p = s .args .p in
-    c .body-after .ensures ∙ rw (take-limited _ (p .length) 22 (p .content) (c .before .before .at-most .ensures) (omega (arith, given s)))
-
-returns : tie.Need-returns
-unfolding effect
-returns c =
-    let t = c .before .before in
-    c .search-sets .ensures ∙ ap setsSearched (did (t .before)) ∙ sym (when-true _ _ _ (sym (t .changes-text .ensures) ∙ c .before .if1 .taken))
-
-returns-2 : tie.Need-returns-2
-unfolding effect
-returns-2 c =
-    let t = c .before in
-    did (t .before) ∙ sym (when-false _ _ _ (sym (t .changes-text .ensures) ∙ c .if1 .left))
+    c .body-after .ensures
+    ∙ rw (take-limited _ (p .length) 22 (p .content) (c .before .before .at-most .ensures) (omega (arith, given s)))
 
 pub effect-of-spec : {M : Type 1} → statement M
 effect-of-spec =
-    tie.close
-    (tie.spec
-    (λ c κs. search needs)
-    array-share-prefix-bytes
-    slice-aggregate-body-after
-    (λ c κs. search needs)
-    (λ c κs. search needs)
-    (λ c κs. search needs)
-    returns
-    returns-2)
+    tie.close (tie.spec (λ c κs. search needs) array-share-prefix-bytes slice-aggregate-body-after (λ c κs. search needs) returns)

@@ -1,4 +1,3 @@
-use mathlib.Core.Path.{_∙_}
 use borrow.Author.Tests.{ne-eqb}
 use Rattle.lists.specs.Tests.{when_then_else_}
 use Rattle.effects.specs.Effects.{liveAfter}
@@ -8,15 +7,15 @@ use Rattle.effects.proofs.live_after.Tie as tie
 
 returns : tie.Need-returns
 unfolding liveAfter when_then_else_
-returns c = c .clear .ensures ∙ rw (c .before .match .keys1)
+returns c = rw (c .set-glyph .ensures, c .before .match .keys1)
 
 returns-2 : tie.Need-returns-2
 unfolding liveAfter when_then_else_
-returns-2 c = rw (c .set-glyph .ensures, c .before .match .keys2)
+returns-2 c = rw (c .before .before .before .before .at .ensures, c .before .before .before .at2 .ensures, c .before .before .match .keys2)
 
 returns-3 : tie.Need-returns-3
 unfolding liveAfter when_then_else_
-returns-3 c = rw (c .before .before .before .before .at .ensures, c .before .before .before .at2 .ensures, c .before .before .match .keys3)
+returns-3 c = rw (c .before .before .before .at .ensures, c .before .match .keys3)
 
 returns-4 : tie.Need-returns-4
 unfolding liveAfter when_then_else_
@@ -28,32 +27,22 @@ returns-5 c = rw (c .before .before .before .at .ensures, c .before .match .keys
 
 returns-6 : tie.Need-returns-6
 unfolding liveAfter when_then_else_
-returns-6 c = rw (c .before .before .before .at .ensures, c .before .match .keys6)
+returns-6 c = rw (c .before .before .before .before .at .ensures, c .before .before .before .at2 .ensures, c .before .before .match .keys6)
 
 returns-7 : tie.Need-returns-7
 unfolding liveAfter when_then_else_
-returns-7 c = rw (c .before .before .before .before .at .ensures, c .before .before .before .at2 .ensures, c .before .before .match .keys7)
+returns-7 c = rw (c .set-pin .ensures, c .before .match .keys7)
 
 returns-8 : tie.Need-returns-8
 unfolding liveAfter when_then_else_
-returns-8 c = rw (c .write-text .ensures, c .before .match .keys8)
-
-returns-9 : tie.Need-returns-9
-unfolding liveAfter when_then_else_
-returns-9 c = rw (c .set-pin .ensures, c .before .match .keys9)
-
-returns-10 : tie.Need-returns-10
-unfolding liveAfter when_then_else_
-returns-10 c =
+returns-8 c =
     let r = c .match .rest in
-    rw (ne-eqb _ 6 (r .0 .0 .0 .0 .0 .0 .0 .0 .1), ne-eqb _ 9 (r .0 .0 .0 .0 .0 .0 .0 .1), ne-eqb _ 11 (r .0 .0 .0 .0 .0 .0 .1), ne-eqb _ 12 (r .0 .0 .0 .0 .0 .1), ne-eqb _ 13 (r .0 .0 .0 .0 .1), ne-eqb _ 14 (r .0 .0 .0 .1), ne-eqb _ 23 (r .0 .0 .1), ne-eqb _ 31 (r .0 .1), ne-eqb _ 34 (r .1))
+    rw (ne-eqb _ 9 (r .0 .0 .0 .0 .0 .0 .1), ne-eqb _ 11 (r .0 .0 .0 .0 .0 .1), ne-eqb _ 12 (r .0 .0 .0 .0 .1), ne-eqb _ 13 (r .0 .0 .0 .1), ne-eqb _ 14 (r .0 .0 .1), ne-eqb _ 23 (r .0 .1), ne-eqb _ 34 (r .1))
 
 pub live-after-spec : {M : Type 1} → statement M
 live-after-spec =
     tie.close
     (tie.spec
-    (λ c κs. search needs)
-    (λ c κs. search needs)
     (λ c κs. search needs)
     (λ c κs. search needs)
     (λ c κs. search needs)
@@ -65,6 +54,4 @@ live-after-spec =
     returns-5
     returns-6
     returns-7
-    returns-8
-    returns-9
-    returns-10)
+    returns-8)
