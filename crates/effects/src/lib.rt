@@ -176,7 +176,7 @@ fn live_after(mut live: Settings, code: u8, content: &[u8]) -> Settings
     }
 }
 
-// Those that change the live text search it for its sets: whoever shows another text does.
+// The body after a command. Whoever changes the live text searches it for its sets.
 fn body_after(mut b: Body, code: u8, content: &[u8]) -> Body
     ensures { λ r. ⌜ r ≡ effect code (now (content .entry)) b ⌝ }
 {

@@ -7,7 +7,7 @@ ghost use Rattle.sets.specs.Sets.{markOf, Searches, ComparesSets};
 pub const CELLS: usize = 80;
 
 // How many glyphs there are: codes that far apart draw the same one.
-const GLYPHS: u8 = 8;
+const GLYPHS: u8 = glyphs::GLYPHS as u8;
 
 // The byte of a cell with that code.
 fn mark_of(code: u8) -> u8

@@ -1,4 +1,4 @@
-// Which cells a symbol is on: a menu designer asks before it is redefined.
+// Which cells a symbol is on: menu designers ask before they redefine it (document 02, order 4).
 ghost use mathlib.Core.Path.{_≡_};
 ghost use Prim.Native.Nat.{_≤_};
 ghost use lib.ListN.{length};
