@@ -1,19 +1,19 @@
 -- What holds of the cells of a symbol, over and above the function's own promise.
 use Prim.Native.Nat.{ℕ, _<_, _≤_}
-use mathlib.Core.Path.{_≡_, refl, sym, _∙_, ap}
-use mathlib.Core.Logic.{_↔_, Iff·trans}
+use mathlib.Core.Path.{_≡_, refl, _∙_, ap}
+use mathlib.Core.Logic.{_↔_}
 use mathlib.Core.Bool.{Bool, true}
 use mathlib.Core.List.{List}
 use native.Mathlib.Omega.{arith}
 use lib.ListN.{length, getD}
 use Rattle.lists.specs.Promise.{Determined}
 use Rattle.lists.specs.Runs.{front}
-use Rattle.lists.specs.Rising.{passing, ListedIn}
+use Rattle.lists.specs.Rising.{ListedIn}
 use Rattle.lists.proofs.Fronts.{front-behind}
 use Rattle.lists.proofs.Rising.{front-rises, front-exact}
 use Rattle.lists.proofs.Theorems.{one, and}
 use Rattle.glyphs.specs.Source.{special, sourceOf}
-use Rattle.sets.specs.Sets.{searched, cellsOf, drawsGlyph, cellsFound}
+use Rattle.sets.specs.Sets.{cellsOf, drawsGlyph, cellsFound}
 use Rattle.sets.proofs.Laws.{is-searched, draws-special}
 use Rattle.sets.proofs.Theorems.{cells-are-found}
 use Rattle.panel.specs.declared.Panel.{Panel}

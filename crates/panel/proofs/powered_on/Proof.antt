@@ -1,4 +1,4 @@
-use mathlib.Core.Path.{_≡_, refl, _∙_, sym}
+use mathlib.Core.Path.{_≡_, refl}
 use lib.ListN.{replicate}
 use Rattle.lists.specs.Tests.{when_then_else_}
 use Rattle.glyphs.specs.Source.{sourceOf}

@@ -1,10 +1,8 @@
 use Prim.Native.Nat.{_≤_, _-_}
-use mathlib.Core.Path.{_≡_, refl, sym, _∙_}
-use mathlib.Core.Bool.{Bool, _&&_}
+use mathlib.Core.Path.{_≡_, refl}
 use native.Mathlib.Omega.{arith}
 use borrow.Author.Tests.{eq-eqb, ne-eqb}
-use lib.ListN.{length, getD}
-use Rattle.lists.specs.Tests.{_=?_}
+use lib.ListN.{length}
 use Rattle.sets.specs.Sets.{searchedBelow, isSearch}
 use Rattle.sets.proofs.Laws.{below-turn}
 use borrow.Author.Needs.{needs}

@@ -1,5 +1,5 @@
 use borrow.Author.Needs.{needs}
-use mathlib.Core.Path.{refl, _∙_, sym}
+use mathlib.Core.Path.{refl, sym}
 use lib.ListN.{getD}
 use Rattle.lists.specs.Tests.{when_then_else_}
 use Rattle.picture.specs.Draw.{codeDrawn}
