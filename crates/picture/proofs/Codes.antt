@@ -1,19 +1,23 @@
 -- What a code draws, source by source, and when two drawings are alike.
-use Prim.Native.Nat.{ℕ, zero, suc, _+_, _-_, _*_, _%_}
-use mathlib.Core.Path.{_≡_, refl}
+use Prim.Native.Nat.{ℕ, zero, suc, _+_, _-_, _*_, _%_, _<_}
+use mathlib.Core.Path.{_≡_, refl, _∙_}
+use mathlib.Core.Logic.{dite}
 use mathlib.Core.Bool.{Bool, true, false, not, _&&_, _||_}
-use mathlib.Core.List.{List, []}
+use mathlib.Core.List.{List, [], _∷_}
 use native.Mathlib.Numerals.{add-one}
 use native.Mathlib.Omega.{arith}
+use native.Mathlib.Decide.{ℕ-discrete}
 use borrow.Author.Tests.{eqb-true, not-true}
-use lib.ListN.{getD, set, replicate}
+use lib.ListN.{length, getD, set, replicate}
+use lib.Seq.{getD-set-same, getD-set-other}
 use Rattle.lists.specs.Tests.{_=?_}
 use Rattle.lists.proofs.Laws.{when-true, when-false}
 use Rattle.glyphs.specs.Glyphs.{eightFrom}
 use Rattle.glyphs.specs.Source.{Source, special, font, isSpecial, sourceOf}
-use Rattle.sets.specs.Sets.{markFor, markOf}
+use Rattle.sets.specs.Sets.{markFor, markOf, searched}
+use Rattle.sets.proofs.Laws.{mark-small}
 use Rattle.picture.specs.Draw.{drawnFrom, lowSix, codeDrawn}
-use Rattle.picture.specs.Repaint.{alike, glyphStays}
+use Rattle.picture.specs.Repaint.{alike, glyphStays, Marks}
 use Rattle.picture.proofs.Changes.{both, alike-self}
 
 module _ (glyphs : List (List ℕ)) (bytes : List ℕ) (code : ℕ) where
@@ -50,6 +54,17 @@ mark-alike before after bytes code h = go (sourceOf code) h
     go : (s : Source) → glyphStays (markFor s) before after ≡ true → alike 8 (drawnFrom s before bytes) (drawnFrom s after bytes) ≡ true
     go (special number) h = rw add-one at h
     go (font c) h = alike-self 8 (lowSix (eightFrom bytes (8 * c)))
+
+pub searched-marks : (text : List ℕ) → Marks (searched text)
+searched-marks [] cell = omega arith
+searched-marks (code ∷ text) zero = mark-small code
+searched-marks (code ∷ text) (suc cell) = searched-marks text cell
+
+-- one cell more of those to look at
+pub look-turn : (test : ℕ → Bool) (look : List Bool) (n : ℕ) → n < length look → ((cell : ℕ) → cell < n → getD look cell false ≡ test cell)
+    → (cell : ℕ) → cell < n + 1 → getD (set look n (test n)) cell false ≡ test cell
+look-turn test look n h f cell l =
+    dite (ℕ-discrete cell n) (λ e. rw e (getD-set-same look n (test n) false h)) (λ e. getD-set-other look n cell (test n) false e ∙ f cell (omega arith))
 
 -- the low six bits of the first n of eight rows, zeros behind
 unfoldable pub lowFirst : ℕ → List ℕ → List ℕ

@@ -1,14 +1,14 @@
 -- Which cells a call changes, and the picture repainted: "A call's list comes from the state before and after, never from the
 -- lent picture; all eight bytes of each listed cell are written, and no other byte."
-use Prim.Native.Nat.{ℕ, zero, suc}
+use Prim.Native.Nat.{ℕ, zero, suc, _<_, _≤_}
 use mathlib.Core.Path.{_≡_}
-use mathlib.Core.Bool.{Bool, true, not, _&&_}
+use mathlib.Core.Bool.{Bool, true, false, not, _&&_, _||_}
 use mathlib.Core.List.{List, []}
 use lib.ListN.{length, getD}
 use Rattle.lists.specs.Tests.{when_then_else_, _=?_}
 use Rattle.lists.specs.Runs.{front}
 use Rattle.lists.specs.Rising.{passing}
-use Rattle.sets.specs.Sets.{searched}
+use Rattle.glyphs.specs.Source.{isSpecial}
 use Rattle.picture.specs.Draw.{cellCount, pictureSize, Screen, cellDrawn, put, paint, drawn}
 
 -- whether the first n bytes are the same
@@ -37,20 +37,36 @@ unfoldable pub glyphStays : ℕ → List (List ℕ) → List (List ℕ) → Bool
 glyphStays zero before after = true
 glyphStays (suc glyph) before after = alike 8 (getD before glyph []) (getD after glyph [])
 
--- what a repaint knows before it looks at a cell: where `same` is true that the glyphs are as before, and where `bySets` is, that
--- the codes are, and that the sets are those of the codes
-abbrev pub Known : (old new sets : List ℕ) (before after : List (List ℕ)) → Bool → Bool → Type 0
-Known old new sets before after same bySets = (same ≡ true → before ≡ after) × (bySets ≡ true → (old ≡ new) × (sets ≡ searched new))
+-- a code that stays, and draws from the font or from glyphs that are as before
+abbrev pub codeStays : ℕ → ℕ → Bool → Bool
+codeStays a b same = (a =? b) && (same || not (isSpecial b))
+
+-- which cells are looked at: those that pass a test
+abbrev pub LooksBy : (ℕ → Bool) → List Bool → Type 0
+LooksBy test look = (cell : ℕ) → cell < cellCount → getD look cell false ≡ test cell
+
+-- each byte of the sets names a glyph, or none
+abbrev pub Marks : List ℕ → Type 0
+Marks sets = (cell : ℕ) → getD sets cell 0 ≤ 8
+
+-- where the sets are asked, the cells whose glyph changed, by their sets alone; elsewhere those whose codes do not say that they draw as
+-- they did
+abbrev pub outOfSets : List ℕ → List (List ℕ) → List (List ℕ) → ℕ → Bool
+outOfSets sets before after cell = not (glyphStays (getD sets cell 0) before after)
+
+abbrev pub outOfCodes : List ℕ → List ℕ → Bool → ℕ → Bool
+outOfCodes old new same cell = not (codeStays (getD old cell 0) (getD new cell 0) same)
 
 -- a cell draws as it did, whatever the font
 abbrev pub DrawsAlike : Screen → Screen → ℕ → Type 0
 DrawsAlike before after cell = (font : List ℕ) → alike 8 (cellDrawn before font cell) (cellDrawn after font cell) ≡ true
 
--- what `passed` promises: a cell that is passed over draws as it did; where the sets are asked, those whose glyph changed are looked at,
--- and no others
-abbrev pub PassesOver : Screen → Screen → List ℕ → Bool → ℕ → Bool → Type 0
-PassesOver before after sets bySets cell r =
-    (bySets ≡ true → r ≡ glyphStays (getD sets cell 0) (before .glyphs) (after .glyphs)) × (r ≡ true → DrawsAlike before after cell)
+-- what `looked` promises: a cell that is not looked at draws as it did; where the sets are asked, no cell outside those of the glyphs that
+-- changed is looked at
+abbrev pub LooksAt : Screen → Screen → List ℕ → Bool → List Bool → Type 0
+LooksAt before after sets bySets look =
+    ((cell : ℕ) → cell < cellCount → getD look cell false ≡ false → DrawsAlike before after cell)
+    × (bySets ≡ true → LooksBy (outOfSets sets (before .glyphs) (after .glyphs)) look)
 
 -- what the repaint of one cell promises: whether it draws as it did, and the picture with its eight bytes written if not
 abbrev pub RepaintsCell : ℕ → List ℕ → List ℕ → List ℕ → Bool → List ℕ → Type 0

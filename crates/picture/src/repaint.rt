@@ -1,13 +1,11 @@
 // The repaint, from the codes and glyphs before and after, and the picture drawn afresh.
 ghost use mathlib.Core.Path.{_≡_};
-ghost use mathlib.Core.Bool.{true, not, _&&_, _||_};
+ghost use mathlib.Core.Bool.{true, false, _&&_};
 ghost use Prim.Native.Nat.{_<_, _≤_};
 ghost use lib.ListN.{length};
-ghost use Rattle.lists.specs.Tests.{_=?_};
-ghost use Rattle.glyphs.specs.Source.{isSpecial};
-ghost use Rattle.sets.specs.Sets.{isSearch};
+ghost use Rattle.sets.specs.Sets.{isSearch, searched};
 ghost use Rattle.picture.specs.Draw.{cellDrawn, drawn, screen, screenOf};
-ghost use Rattle.picture.specs.Repaint.{alike, glyphStays, Known, PassesOver, RepaintsCell, RepaintsSized, DrawsAll};
+ghost use Rattle.picture.specs.Repaint.{alike, glyphStays, codeStays, Marks, LooksBy, outOfSets, outOfCodes, DrawsAlike, LooksAt, RepaintsCell, RepaintsSized, DrawsAll};
 use crate::draw::draw;
 use crate::draw::put_cell;
 use glyphs::is_special;
@@ -38,7 +36,7 @@ fn alike_first(a: &[u8], b: &[u8], n: usize) -> bool
 
 // A code that stays draws as it did where the glyphs are the same, or where it is not special.
 fn stays(a: u8, b: u8, same: bool) -> bool
-    ensures { λ r. ⌜ r ≡ (a =? b) && (same || not (isSpecial b)) ⌝ }
+    ensures { λ r. ⌜ r ≡ codeStays a b same ⌝ }
 {
     (a == b) & (same | !is_special(b))
 }
@@ -67,10 +65,37 @@ fn sets_serve(kept: bool, text: &[u8], sets: &[u8]) -> bool
     false
 }
 
-// Whether a cell is passed over, since it draws as it did. Where only glyphs changed, a cell outside their sets is, and neither its
-// code nor its drawing is looked at; elsewhere its codes decide.
-fn passed(
-    cell: usize,
+// The cells in the sets of the glyphs that changed.
+fn looked_by_sets(sets: &[u8], before: [[u8; 8]; 8], after: [[u8; 8]; 8]) -> [bool; CELLS]
+    requires { ⌜ (length (now sets) ≡ 80) × Marks (now sets) ⌝ }
+    ensures { λ r. ⌜ LooksBy (outOfSets (now (sets .entry)) before after) r ⌝ }
+{
+    let mut look = [false; CELLS];
+    let mut cell: usize = 0;
+    while cell < CELLS {
+        look[cell] = !glyph_stays(sets[cell], before, after);
+        cell += 1;
+    }
+    look
+}
+
+// The cells whose codes do not say that they draw as they did.
+fn looked_by_codes(old: &[u8], new: &[u8], same: bool) -> [bool; CELLS]
+    requires { ⌜ (length (now old) ≡ 80) × (length (now new) ≡ 80) ⌝ }
+    ensures { λ r. ⌜ LooksBy (outOfCodes (now (old .entry)) (now (new .entry)) same) r ⌝ }
+{
+    let mut look = [false; CELLS];
+    let mut cell: usize = 0;
+    while cell < CELLS {
+        look[cell] = !stays(old[cell], new[cell], same);
+        cell += 1;
+    }
+    look
+}
+
+// The cells to look at; all others draw as they did. Where only glyphs changed, neither code nor drawing of a cell outside their sets is
+// looked at.
+fn looked(
     old: &[u8],
     new: &[u8],
     sets: &[u8],
@@ -78,45 +103,42 @@ fn passed(
     after: [[u8; 8]; 8],
     same: bool,
     by_sets: bool,
-) -> bool
-    requires { ⌜ (cell < 80) × (length (now old) ≡ 80) × (length (now new) ≡ 80) × Known (now old) (now new) (now sets) before after same «by_sets» ⌝ }
-    ensures { λ r. ⌜ PassesOver (screen (now (old .entry)) before) (screen (now (new .entry)) after) (now (sets .entry)) «by_sets» cell r ⌝ }
+) -> [bool; CELLS]
+    requires { ⌜ (length (now old) ≡ 80) × (length (now new) ≡ 80) × (same ≡ true → before ≡ after) × («by_sets» ≡ true → (now old ≡ now new) × (now sets ≡ searched (now new))) ⌝ }
+    ensures { λ r. ⌜ LooksAt (screen (now (old .entry)) before) (screen (now (new .entry)) after) (now (sets .entry)) «by_sets» r ⌝ }
 {
     if by_sets {
-        return glyph_stays(sets[cell], before, after);
+        return looked_by_sets(sets, before, after);
     }
-    stays(old[cell], new[cell], same)
+    looked_by_codes(old, new, same)
 }
 
-// A cell that draws otherwise is written; says whether it draws as it did.
+// A cell that draws otherwise is written; says whether it draws as it did, as one does that need not be looked at.
 fn repaint_cell(
     picture: &mut [u8],
     cell: usize,
+    look: bool,
     old: &[u8],
     new: &[u8],
-    sets: &[u8],
     before: [[u8; 8]; 8],
     after: [[u8; 8]; 8],
-    same: bool,
-    by_sets: bool,
     font: &[u8],
 ) -> bool
-    requires { ⌜ (length (now picture) ≡ 640) × (cell < 80) × (length (now old) ≡ 80) × (length (now new) ≡ 80) × Known (now old) (now new) (now sets) before after same «by_sets» ⌝ }
+    requires { ⌜ (length (now picture) ≡ 640) × (cell < 80) × (length (now old) ≡ 80) × (length (now new) ≡ 80) × (look ≡ false → DrawsAlike (screen (now old) before) (screen (now new) after) cell) ⌝ }
     ensures { λ r. ⌜ RepaintsCell cell (cellDrawn (screen (now (old .entry)) before) (now (font .entry)) cell) (cellDrawn (screen (now (new .entry)) after) (now (font .entry)) cell) (now (picture .entry)) r (now (picture .exit)) ⌝ }
 {
-    if passed(cell, old, new, sets, before, after, same, by_sets) {
-        return true;
-    }
-    let a = old[cell];
-    let b = new[cell];
-    let was = draw(before, font, a);
-    let bytes = draw(after, font, b);
-    if alike_first(&was, &bytes, 8) {
-        true
-    } else {
+    if look {
+        let a = old[cell];
+        let b = new[cell];
+        let was = draw(before, font, a);
+        let bytes = draw(after, font, b);
+        if alike_first(&was, &bytes, 8) {
+            return true;
+        }
         put_cell(picture, cell, bytes);
-        false
+        return false;
     }
+    true
 }
 
 // Each cell that draws otherwise is written and listed. Nothing is where the picture or the list is not of its size, or where
@@ -140,21 +162,12 @@ fn repaint_cells(
         return 0;
     }
     let by_sets = sets_serve(kept, new, sets);
+    let look = looked(old, new, sets, before, after, same, by_sets);
     let mut listed: usize = 0;
     let mut cell: usize = 0;
     while cell < CELLS {
-        if repaint_cell(
-            picture,
-            cell,
-            old,
-            new,
-            sets,
-            before,
-            after,
-            same,
-            by_sets,
-            font,
-        ) {
+        let seen = look[cell];
+        if repaint_cell(picture, cell, seen, old, new, before, after, font) {
             cell += 1;
         } else {
             list[listed] = cell as u8;
