@@ -1,5 +1,5 @@
 -- What a code draws, source by source, and when two drawings are alike.
-use Prim.Native.Nat.{ℕ, zero, suc, _+_, _-_, _*_, _%_, _<_}
+use Prim.Native.Nat.{ℕ, zero, suc, _+_, _-_, _*_, _%_, _<_, _≤_}
 use mathlib.Core.Path.{_≡_, refl, _∙_}
 use mathlib.Core.Logic.{dite}
 use mathlib.Core.Bool.{Bool, true, false, not, _&&_, _||_}
@@ -8,7 +8,7 @@ use native.Mathlib.Numerals.{add-one}
 use native.Mathlib.Omega.{arith}
 use native.Mathlib.Decide.{ℕ-discrete}
 use borrow.Author.Tests.{eqb-true, not-true}
-use lib.ListN.{length, getD, set, replicate}
+use lib.ListN.{length, getD, set, replicate, length-set}
 use lib.Seq.{getD-set-same, getD-set-other}
 use Rattle.lists.specs.Tests.{_=?_}
 use Rattle.lists.proofs.Laws.{when-true, when-false}
@@ -17,7 +17,7 @@ use Rattle.glyphs.specs.Source.{Source, special, font, isSpecial, sourceOf}
 use Rattle.sets.specs.Sets.{markFor, markOf, searched}
 use Rattle.sets.proofs.Laws.{mark-small}
 use Rattle.picture.specs.Draw.{drawnFrom, lowSix, codeDrawn}
-use Rattle.picture.specs.Repaint.{alike, glyphStays, Marks}
+use Rattle.picture.specs.Repaint.{alike, glyphStays, Marks, LooksBy}
 use Rattle.picture.proofs.Changes.{both, alike-self}
 
 module _ (glyphs : List (List ℕ)) (bytes : List ℕ) (code : ℕ) where
@@ -60,11 +60,24 @@ searched-marks [] cell = omega arith
 searched-marks (code ∷ text) zero = mark-small code
 searched-marks (code ∷ text) (suc cell) = searched-marks text cell
 
--- one cell more of those to look at
-pub look-turn : (test : ℕ → Bool) (look : List Bool) (n : ℕ) → n < length look → ((cell : ℕ) → cell < n → getD look cell false ≡ test cell)
-    → (cell : ℕ) → cell < n + 1 → getD (set look n (test n)) cell false ≡ test cell
-look-turn test look n h f cell l =
-    dite (ℕ-discrete cell n) (λ e. rw e (getD-set-same look n (test n) false h)) (λ e. getD-set-other look n cell (test n) false e ∙ f cell (omega arith))
+-- how far a loop has come that finds the cells to look at: of the first n it is known
+abbrev pub Looking : (ℕ → Bool) → ℕ → List Bool → Type 0
+Looking test n look = (n ≤ 80) × (length look ≡ 80) × ((cell : ℕ) → cell < n → getD look cell false ≡ test cell)
+
+module _ (test : ℕ → Bool) (look : List Bool) where
+  pub look-first : length look ≡ 80 → Looking test 0 look
+  look-first e = (omega arith, e, λ cell h. absurd (omega arith))
+
+  pub look-turn : (n : ℕ) → n < 80 → Looking test n look → Looking test (n + 1) (set look n (test n))
+  look-turn n h w = (
+    omega arith,
+    length-set look n (test n) ∙ w .1,
+    λ cell l.
+        dite (ℕ-discrete cell n) (λ e. rw e (getD-set-same look n (test n) false (omega (arith, w .1)))) (λ e. getD-set-other look n cell (test n) false e ∙ w .2 cell (omega arith)),
+  )
+
+  pub look-all : (n : ℕ) → 80 ≤ n → Looking test n look → LooksBy test look
+  look-all n h w = λ cell l. w .2 cell (omega arith)
 
 -- the low six bits of the first n of eight rows, zeros behind
 unfoldable pub lowFirst : ℕ → List ℕ → List ℕ

@@ -49,13 +49,13 @@ LooksBy test look = (cell : ℕ) → cell < cellCount → getD look cell false �
 abbrev pub Marks : List ℕ → Type 0
 Marks sets = (cell : ℕ) → getD sets cell 0 ≤ 8
 
--- where the sets are asked, the cells whose glyph changed, by their sets alone; elsewhere those whose codes do not say that they draw as
--- they did
-abbrev pub outOfSets : List ℕ → List (List ℕ) → List (List ℕ) → ℕ → Bool
-outOfSets sets before after cell = not (glyphStays (getD sets cell 0) before after)
+-- whether a cell is looked at: where the sets are asked, if the glyph changed in whose set it is, and by nothing else; elsewhere unless
+-- its codes say that it draws as it did
+abbrev pub looksBySets : List ℕ → List (List ℕ) → List (List ℕ) → ℕ → Bool
+looksBySets sets before after cell = not (glyphStays (getD sets cell 0) before after)
 
-abbrev pub outOfCodes : List ℕ → List ℕ → Bool → ℕ → Bool
-outOfCodes old new same cell = not (codeStays (getD old cell 0) (getD new cell 0) same)
+abbrev pub looksByCodes : List ℕ → List ℕ → Bool → ℕ → Bool
+looksByCodes old new same cell = not (codeStays (getD old cell 0) (getD new cell 0) same)
 
 -- a cell draws as it did, whatever the font
 abbrev pub DrawsAlike : Screen → Screen → ℕ → Type 0
@@ -66,7 +66,7 @@ DrawsAlike before after cell = (font : List ℕ) → alike 8 (cellDrawn before f
 abbrev pub LooksAt : Screen → Screen → List ℕ → Bool → List Bool → Type 0
 LooksAt before after sets bySets look =
     ((cell : ℕ) → cell < cellCount → getD look cell false ≡ false → DrawsAlike before after cell)
-    × (bySets ≡ true → LooksBy (outOfSets sets (before .glyphs) (after .glyphs)) look)
+    × (bySets ≡ true → LooksBy (looksBySets sets (before .glyphs) (after .glyphs)) look)
 
 -- what the repaint of one cell promises: whether it draws as it did, and the picture with its eight bytes written if not
 abbrev pub RepaintsCell : ℕ → List ℕ → List ℕ → List ℕ → Bool → List ℕ → Type 0

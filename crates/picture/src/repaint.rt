@@ -5,7 +5,7 @@ ghost use Prim.Native.Nat.{_<_, _≤_};
 ghost use lib.ListN.{length};
 ghost use Rattle.sets.specs.Sets.{isSearch, searched};
 ghost use Rattle.picture.specs.Draw.{cellDrawn, drawn, screen, screenOf};
-ghost use Rattle.picture.specs.Repaint.{alike, glyphStays, codeStays, Marks, LooksBy, outOfSets, outOfCodes, DrawsAlike, LooksAt, RepaintsCell, RepaintsSized, DrawsAll};
+ghost use Rattle.picture.specs.Repaint.{alike, glyphStays, codeStays, Marks, LooksBy, looksBySets, looksByCodes, DrawsAlike, LooksAt, RepaintsCell, RepaintsSized, DrawsAll};
 use crate::draw::draw;
 use crate::draw::put_cell;
 use glyphs::is_special;
@@ -68,7 +68,7 @@ fn sets_serve(kept: bool, text: &[u8], sets: &[u8]) -> bool
 // The cells in the sets of the glyphs that changed.
 fn looked_by_sets(sets: &[u8], before: [[u8; 8]; 8], after: [[u8; 8]; 8]) -> [bool; CELLS]
     requires { ⌜ (length (now sets) ≡ 80) × Marks (now sets) ⌝ }
-    ensures { λ r. ⌜ LooksBy (outOfSets (now (sets .entry)) before after) r ⌝ }
+    ensures { λ r. ⌜ LooksBy (looksBySets (now (sets .entry)) before after) r ⌝ }
 {
     let mut look = [false; CELLS];
     let mut cell: usize = 0;
@@ -82,7 +82,7 @@ fn looked_by_sets(sets: &[u8], before: [[u8; 8]; 8], after: [[u8; 8]; 8]) -> [bo
 // The cells whose codes do not say that they draw as they did.
 fn looked_by_codes(old: &[u8], new: &[u8], same: bool) -> [bool; CELLS]
     requires { ⌜ (length (now old) ≡ 80) × (length (now new) ≡ 80) ⌝ }
-    ensures { λ r. ⌜ LooksBy (outOfCodes (now (old .entry)) (now (new .entry)) same) r ⌝ }
+    ensures { λ r. ⌜ LooksBy (looksByCodes (now (old .entry)) (now (new .entry)) same) r ⌝ }
 {
     let mut look = [false; CELLS];
     let mut cell: usize = 0;
@@ -93,8 +93,8 @@ fn looked_by_codes(old: &[u8], new: &[u8], same: bool) -> [bool; CELLS]
     look
 }
 
-// The cells to look at; all others draw as they did. Where only glyphs changed, neither code nor drawing of a cell outside their sets is
-// looked at.
+// The cells to look at; all others draw as they did. Where the sets are asked, those in the sets of the glyphs that changed are, and no
+// others.
 fn looked(
     old: &[u8],
     new: &[u8],
