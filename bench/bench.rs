@@ -1,4 +1,5 @@
-//! The benchmark: the library against the reading, on the same bytes in one run. Prints a table for docs/BENCH.md.
+//! The benchmark: the library against the reading, on the same bytes in one run. Prints a table for docs/BENCH.md. Built with
+//! `--cfg earlier`, and linked with an earlier library too, whose names begin with `earlier_`, `bench earlier` prints both in one table.
 //!
 //! For counting instructions: `bench host` writes the host traffic, `bench packets` prints how many packets it has,
 //! `bench library` gives it to the library once, and `bench nothing` does all of that but the calls. `bench recordings PROGRAM FOLDER`
@@ -8,6 +9,7 @@
 #[path = "../outside/reading.rs"]
 mod reading;
 
+use std::hint::black_box;
 use std::io::Write;
 
 use reading::{checksum, Settings, CELLS, FONT, LIST, PICTURE, PIECE_MOST, REGISTER, REPLY, SAID, STATE};
@@ -16,35 +18,79 @@ use reading::{checksum, Settings, CELLS, FONT, LIST, PICTURE, PIECE_MOST, REGIST
 const ROUNDS: usize = 21;
 const TURN: f64 = 0.03;
 
-/// `naupelys.h`, and of `naupelys_host.h` the call on recordings.
-mod library {
-    extern "C" {
-        pub fn naupelys_recording_next(
-            recording: *const u8,
-            recording_size: usize,
-            place: *mut usize,
-            kind: *mut u8,
-            start: *mut usize,
-            length: *mut usize,
-        ) -> u8;
-        pub fn naupelys_line(
-            state: *mut u8,
-            state_size: usize,
-            piece: *const u8,
-            piece_size: usize,
-            picture: *mut u8,
-            picture_size: usize,
-            font: *const u8,
-            font_size: usize,
-            list: *mut u8,
-            list_size: usize,
-            reply: *mut u8,
-            reply_size: usize,
-            faults: *mut u8,
-            faults_size: usize,
-            said: *mut u8,
-        ) -> u8;
-    }
+/// The checksum of so many bytes.
+type Checksum = unsafe extern "C" fn(bytes: *const u8, size: usize) -> u16;
+
+/// A library's line call, as `naupelys.h` has it, and its checksum, which `bench/run` makes a call of.
+macro_rules! library {
+    ($library:ident, $line:literal, $checksum:literal) => {
+        mod $library {
+            use super::{Desk, FONT, LIST, PICTURE, REGISTER, REPLY, STATE};
+
+            extern "C" {
+                #[link_name = $checksum]
+                pub fn sum(bytes: *const u8, size: usize) -> u16;
+                #[link_name = $line]
+                fn line(
+                    state: *mut u8,
+                    state_size: usize,
+                    piece: *const u8,
+                    piece_size: usize,
+                    picture: *mut u8,
+                    picture_size: usize,
+                    font: *const u8,
+                    font_size: usize,
+                    list: *mut u8,
+                    list_size: usize,
+                    reply: *mut u8,
+                    reply_size: usize,
+                    faults: *mut u8,
+                    faults_size: usize,
+                    said: *mut u8,
+                ) -> u8;
+            }
+
+            pub fn contestant(desk: &mut Desk, piece: &[u8]) -> u8 {
+                // Safety: every pointer points to as many bytes as its length says, and no two buffers overlap.
+                unsafe {
+                    line(
+                        desk.state.as_mut_ptr(),
+                        STATE,
+                        piece.as_ptr(),
+                        piece.len(),
+                        desk.picture.as_mut_ptr(),
+                        PICTURE,
+                        desk.font.as_ptr(),
+                        FONT,
+                        desk.list.as_mut_ptr(),
+                        LIST,
+                        desk.reply.as_mut_ptr(),
+                        REPLY,
+                        desk.faults.as_mut_ptr(),
+                        REGISTER,
+                        desk.said.as_mut_ptr(),
+                    )
+                }
+            }
+        }
+    };
+}
+
+library!(library, "naupelys_line", "now_checksum");
+// One whose lent bytes have the same sizes and places.
+#[cfg(earlier)]
+library!(earlier, "earlier_naupelys_line", "earlier_checksum");
+
+// Of `naupelys_host.h` the call on recordings.
+extern "C" {
+    fn naupelys_recording_next(
+        recording: *const u8,
+        recording_size: usize,
+        place: *mut usize,
+        kind: *mut u8,
+        start: *mut usize,
+        length: *mut usize,
+    ) -> u8;
 }
 
 /// Seconds that this program has had a core, so that others on the machine do not count. (POSIX; the number is Linux's.)
@@ -98,29 +144,6 @@ impl Desk {
 }
 
 type Contestant = fn(&mut Desk, &[u8]) -> u8;
-
-fn by_library(desk: &mut Desk, piece: &[u8]) -> u8 {
-    // Safety: every pointer points to as many bytes as its length says, and no two buffers overlap.
-    unsafe {
-        library::naupelys_line(
-            desk.state.as_mut_ptr(),
-            STATE,
-            piece.as_ptr(),
-            piece.len(),
-            desk.picture.as_mut_ptr(),
-            PICTURE,
-            desk.font.as_ptr(),
-            FONT,
-            desk.list.as_mut_ptr(),
-            LIST,
-            desk.reply.as_mut_ptr(),
-            REPLY,
-            desk.faults.as_mut_ptr(),
-            REGISTER,
-            desk.said.as_mut_ptr(),
-        )
-    }
-}
 
 fn by_reading(desk: &mut Desk, piece: &[u8]) -> u8 {
     reading::line(
@@ -369,9 +392,8 @@ fn asked(file: &[u8]) -> usize {
     let (mut packets, mut place, mut kind, mut start, mut length) = (0, 0, 0, 0, 0);
     loop {
         // Safety: every pointer points to as many bytes as its length says, or to a number.
-        let number = unsafe {
-            library::naupelys_recording_next(file.as_ptr(), file.len(), &mut place, &mut kind, &mut start, &mut length)
-        };
+        let number =
+            unsafe { naupelys_recording_next(file.as_ptr(), file.len(), &mut place, &mut kind, &mut start, &mut length) };
         match number {
             3 => packets += 1,
             1 => return packets,
@@ -458,19 +480,42 @@ fn recordings(host: &[u8], program: &str, folder: &str) {
 // The table
 // ---------------------------------------------------------------------------------------------------------------------------
 
-/// One turn: the bytes again and again. Gives bytes a second.
-fn turn(contestant: Contestant, bytes: &[u8], size: usize) -> f64 {
-    let mut desk = Desk::at_power_on();
+/// A job again and again for one turn. Gives bytes a second, where the job is so many bytes.
+fn pace(bytes: usize, mut job: impl FnMut()) -> f64 {
     let start = seconds();
     let mut given = 0;
     loop {
-        drive(contestant, &mut desk, bytes, size);
-        given += bytes.len();
+        job();
+        given += bytes;
         let passed = seconds() - start;
         if passed >= TURN {
             return given as f64 / passed;
         }
     }
+}
+
+/// A contestant's turn on a line.
+fn turn(contestant: Contestant, bytes: &[u8], size: usize) -> f64 {
+    let mut desk = Desk::at_power_on();
+    pace(bytes.len(), || {
+        drive(contestant, &mut desk, bytes, size);
+    })
+}
+
+/// A checksum's turn: the line in pieces of that size, each by itself.
+fn sum_turn(sum: Checksum, bytes: &[u8], size: usize) -> f64 {
+    pace(bytes.len(), || {
+        for piece in bytes.chunks(size) {
+            // Safety: the pointer points to as many bytes as the length says.
+            black_box(unsafe { sum(piece.as_ptr(), piece.len()) });
+        }
+    })
+}
+
+/// The reading's, called as the library's is.
+extern "C" fn checksum_by_reading(bytes: *const u8, size: usize) -> u16 {
+    // Safety: `sum_turn` lends as many bytes as it says.
+    checksum(unsafe { std::slice::from_raw_parts(bytes, size) })
 }
 
 fn median(mut values: Vec<f64>) -> f64 {
@@ -499,73 +544,72 @@ fn with_commas(value: usize) -> String {
 fn main() {
     let host = host_traffic();
     match std::env::args().nth(1).as_deref() {
-        None => table(&host),
+        None => beside_reading(&host),
+        Some("earlier") => beside_earlier(&host),
         Some("host") => std::io::stdout().write_all(&host).expect("standard output can be written"),
         // Every piece ends with one call that waits.
         Some("packets") => {
             let calls = drive(by_reading, &mut Desk::at_power_on(), &host, PIECE_MOST);
             println!("{}", calls - host.chunks(PIECE_MOST).len() as u64);
         }
-        Some("library") => assert!(drive(by_library, &mut Desk::at_power_on(), &host, PIECE_MOST) > 0),
+        Some("library") => assert!(drive(library::contestant, &mut Desk::at_power_on(), &host, PIECE_MOST) > 0),
         Some("nothing") => assert!(drive(|_, _| reading::WAITING, &mut Desk::at_power_on(), &host, PIECE_MOST) > 0),
         Some("recordings") => {
             let arguments: Vec<String> = std::env::args().skip(2).collect();
             recordings(&host, &arguments[0], &arguments[1]);
         }
-        Some(word) => panic!("{word}: host, packets, library, nothing or recordings"),
+        Some(word) => panic!("{word}: earlier, host, packets, library, nothing or recordings"),
     }
 }
 
-fn table(host: &[u8]) {
-    let noise = noise(16 * PIECE_MOST);
-    let run = vec![0x16; 2 * PIECE_MOST];
-    let all: &[Contestant] = &[by_library, by_reading, by_draw_all];
-    let rows: [(&str, &[u8], usize, &[Contestant]); 8] = [
-        ("host traffic", host, 1, all),
-        ("host traffic", host, 2, all),
-        ("host traffic", host, 16, all),
-        ("host traffic", host, PIECE_MOST, all),
-        ("noise", &noise, 16, &all[..2]),
-        ("noise", &noise, PIECE_MOST, &all[..2]),
-        ("run of 0x16", &run, 16, &all[..2]),
-        ("run of 0x16", &run, PIECE_MOST, &all[..2]),
-    ];
+/// What is given in a row, in pieces of one size.
+struct Row<'a> {
+    name: &'static str,
+    bytes: &'a [u8],
+    size: usize,
+}
 
-    // All contestants have to come to the same end, in as many calls.
-    for (name, bytes, size, contestants) in &rows {
+impl Row<'_> {
+    /// That all come to the same end on a line, in as many calls.
+    fn agreed(&self, contestants: &[Contestant]) {
         let end = |contestant| {
             let mut desk = Desk::at_power_on();
-            (drive(contestant, &mut desk, bytes, *size), desk)
+            (drive(contestant, &mut desk, self.bytes, self.size), desk)
         };
         let first = end(contestants[0]);
+        let Row { name, size, .. } = self;
         assert!(contestants.iter().all(|&other| end(other) == first), "{name}, pieces of {size}: different ends");
     }
 
-    // Turn by turn, each round in another order.
-    let mut measured = vec![vec![Vec::new(); 3]; rows.len()];
+    /// That all give the same checksums.
+    fn summed_alike(&self, sums: &[Checksum]) {
+        for piece in self.bytes.chunks(self.size) {
+            // Safety: the pointer points to as many bytes as the length says.
+            let sum = |sum: Checksum| unsafe { sum(piece.as_ptr(), piece.len()) };
+            assert!(sums.iter().all(|&other| sum(other) == sum(sums[0])), "{}: different checksums", self.name);
+        }
+    }
+}
+
+/// A contestant's turn on a row. Gives bytes a second.
+type Turn<'a> = Box<dyn Fn() -> f64 + 'a>;
+
+/// The median of every contestant's turns: turn by turn, each round in another order.
+fn medians(rows: &[Vec<Turn>]) -> Vec<Vec<f64>> {
+    let mut measured: Vec<Vec<Vec<f64>>> = rows.iter().map(|turns| vec![Vec::new(); turns.len()]).collect();
     for round in 0..ROUNDS {
-        for (row, (_, bytes, size, contestants)) in rows.iter().enumerate() {
-            for place in 0..contestants.len() {
-                let which = (place + round) % contestants.len();
-                measured[row][which].push(turn(contestants[which], bytes, *size));
+        for (turns, values) in rows.iter().zip(&mut measured) {
+            for place in 0..turns.len() {
+                let which = (place + round) % turns.len();
+                values[which].push(turns[which]());
             }
         }
     }
+    measured.into_iter().map(|values| values.into_iter().map(median).collect()).collect()
+}
 
-    let mut table =
-        vec![["bytes", "piece", "library, B/s", "reading, B/s", "library / reading", "draw-all, B/s", "library / draw-all"]
-            .map(String::from)
-            .to_vec()];
-    for ((name, _, size, contestants), turns) in rows.iter().zip(measured) {
-        let speeds: Vec<f64> = turns[..contestants.len()].iter().cloned().map(median).collect();
-        let mut cells = vec![name.to_string(), with_commas(*size)];
-        cells.extend([rounded(speeds[0]), rounded(speeds[1]), format!("{:.2}", speeds[0] / speeds[1])]);
-        match speeds.get(2) {
-            Some(&draw_all) => cells.extend([rounded(draw_all), format!("{:.2}", speeds[0] / draw_all)]),
-            None => cells.extend([String::new(), String::new()]),
-        }
-        table.push(cells);
-    }
+/// A table, its columns but the first to the right.
+fn print_table(table: &[Vec<String>]) {
     let widths: Vec<usize> =
         (0..table[0].len()).map(|column| table.iter().map(|cells| cells[column].len()).max().unwrap_or(0)).collect();
     for (number, cells) in table.iter().enumerate() {
@@ -585,4 +629,64 @@ fn table(host: &[u8]) {
             println!("| {} |", lines.join(" | "));
         }
     }
+}
+
+/// The rows of the checksum alone, of the least and of the most that a packet has for it, and those of lines.
+fn rows<'a>(host: &'a [u8], noise: &'a [u8], run: &'a [u8]) -> (Vec<Row<'a>>, Vec<Row<'a>>) {
+    let row = |name, bytes, size| Row { name, bytes, size };
+    let sums = [2, 24].map(|size| row("checksum alone", noise, size));
+    let lines = [1, 2, 16, PIECE_MOST].map(|size| row("host traffic", host, size)).into_iter();
+    let lines = lines.chain([16, PIECE_MOST].map(|size| row("noise", noise, size)));
+    let lines = lines.chain([16, PIECE_MOST].map(|size| row("run of 0x16", run, size)));
+    (sums.into(), lines.collect())
+}
+
+/// Measures contestants on rows, and prints a table: with each one's speed, and the first one's as a ratio to each of the others.
+/// Those of a line beyond the second have only the rows of host traffic.
+fn compared(host: &[u8], names: &[&str], sums: &[Checksum], contestants: &[Contestant]) {
+    let (noise, run) = (noise(16 * PIECE_MOST), vec![0x16; 2 * PIECE_MOST]);
+    let (sum_rows, line_rows) = rows(host, &noise, &run);
+    let mut turns: Vec<Vec<Turn>> = Vec::new();
+    for row in &sum_rows {
+        row.summed_alike(sums);
+        turns.push(sums.iter().map(|&sum| Box::new(move || sum_turn(sum, row.bytes, row.size)) as Turn).collect());
+    }
+    for row in &line_rows {
+        let of_row = if row.name == "host traffic" { contestants } else { &contestants[..2] };
+        row.agreed(of_row);
+        turns.push(of_row.iter().map(|&one| Box::new(move || turn(one, row.bytes, row.size)) as Turn).collect());
+    }
+
+    let mut head = vec!["bytes".to_string(), "piece".to_string(), format!("{}, B/s", names[0])];
+    for other in &names[1..] {
+        head.extend([format!("{other}, B/s"), format!("{} / {other}", names[0])]);
+    }
+    let mut table = vec![head];
+    for (row, speeds) in sum_rows.iter().chain(&line_rows).zip(medians(&turns)) {
+        let mut cells = vec![row.name.to_string(), with_commas(row.size), rounded(speeds[0])];
+        for other in 1..names.len() {
+            match speeds.get(other) {
+                Some(&speed) => cells.extend([rounded(speed), format!("{:.2}", speeds[0] / speed)]),
+                None => cells.extend([String::new(), String::new()]),
+            }
+        }
+        table.push(cells);
+    }
+    print_table(&table);
+}
+
+fn beside_reading(host: &[u8]) {
+    let sums = [library::sum as Checksum, checksum_by_reading];
+    compared(host, &["library", "reading", "draw-all"], &sums, &[library::contestant, by_reading, by_draw_all]);
+}
+
+#[cfg(earlier)]
+fn beside_earlier(host: &[u8]) {
+    let sums = [library::sum as Checksum, earlier::sum];
+    compared(host, &["now", "before"], &sums, &[library::contestant, earlier::contestant]);
+}
+
+#[cfg(not(earlier))]
+fn beside_earlier(_: &[u8]) {
+    panic!("this one is built without an earlier library");
 }
