@@ -7,7 +7,7 @@ mod words;
 // All sixteen bits set: the start, and what inverts the end.
 pub const ONES: u16 = 65535;
 
-// A step by the table: the high byte moves down, and with it goes the word whose number is the low byte with the new one.
+// A step by the table: the high byte moves down, and is xored with the word whose number is the low byte xored with the new one.
 fn byte(c: u16, b: u8) -> u16
     ensures { λ r. ⌜ r ≡ afterByte c b ⌝ }
 {

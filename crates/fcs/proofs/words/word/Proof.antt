@@ -43,11 +43,16 @@ use Rattle.fcs.proofs.words.word.Code as code
 use Rattle.fcs.proofs.words.word.Code.Mir as written
 
 -- how MIR writes a number of sixteen bits: one near 2 ^ 16 by what it lacks, and one near neither end as a big one
-abbrev literal : ℕ → Opd
-literal w = when w <? 1024 then int w16 w else when 2 ^ 16 - w <? 1024 then intNeg w16 (2 ^ 16 - w) else intBig w16 w
+abbrev literal : (low high : Bool) → ℕ → Opd
+literal true high w = int w16 w
+literal false true w = intNeg w16 (2 ^ 16 - w)
+literal false false w = intBig w16 w
+
+abbrev near : ℕ → Bool
+near n = n <? 1024
 
 abbrev gives : ℕ → Body
-gives w = assign (place 4 []) (rvOpd (literal w))
+gives w = assign (place 4 []) (rvOpd (literal (near w) (near (2 ^ 16 - w)) w))
 
 -- n arms from number k on, by the rule of the table: the word of a number is eight steps on it
 abbrev arms-from : ℕ → ℕ → Arms
@@ -95,8 +100,7 @@ module _ {M : Type 1} (𝓤 : URA M) (H : Heap 𝓤) (A : Atoms 𝓤) (W : Given
         ‵ (froom (tyInt w16) l₄ 0) ∷ ‵ (fdies (tyInt w16) l₄) ∷ ‵ (fat fullShare (tyInt w16) l₃ 0 (vint w16 i)) ∷ ‵ (fdies (tyInt w16) l₃) ∷ ‵ (fat fullShare (tyInt w16) l₂ 0 (vint w16 (256 + i))) ∷ ‵ (fdies (tyInt w16) l₂)
         ∷ ‵ (fat fullShare (tyInt w8) l₁ 0 (vint w8 i)) ∷ ‵ (fdies (tyInt w8) l₁) ∷ ‵ (froom (tyInt w16) l₀ 0) ∷ ‵ (fdies (tyInt w16) l₀) ∷ []
 
-    operand : (w : ℕ) → w < 2 ^ 16 → (low high : Bool) → Run.Opd Go W Before E (when low then int w16 w else when high then intNeg w16 (2 ^ 16 - w) else intBig w16 w) (vint w16 w)
-    unfolding when_then_else_
+    operand : (w : ℕ) → w < 2 ^ 16 → (low high : Bool) → Run.Opd Go W Before E (literal low high w) (vint w16 w)
     operand w h true high = lit ! (lt→ltb w (2 ^ 16) h)
     operand w h false true =
         let e : 2 ^ 16 - (2 ^ 16 - w) ≡ w = omega arith in
@@ -106,17 +110,17 @@ module _ {M : Type 1} (𝓤 : URA M) (H : Heap 𝓤) (A : Atoms 𝓤) (W : Given
     -- an arm with the word of i
     runs-arm : (w : ℕ) → w < 2 ^ 16 → w ≡ afterBits 8 i → Sq W Before (runs C Λ E (gives w) Then)
     runs-arm w h e =
-        assigns-last ! (of-opd ! (operand w h (w <? 1024) (2 ^ 16 - w <? 1024))) (from ! (stop !)) (init ! 0 refl (tt, record { fits = h })) $
+        assigns-last ! (of-opd ! (operand w h (near w) (near (2 ^ 16 - w)))) (from ! (stop !)) (init ! 0 refl (tt, record { fits = h })) $
         exec ! C Λ E the-rest (atRet E Post) $ assigns ! (of-opd ! (load ! (from ! (stop !)) (look ! 0 refl))) (from ! (stop !)) (init ! 8 refl (tt, record { fits = h })) $
         returns ! (look ! 8 refl) $ forget ! 0 refl $ forget ! 2 refl $ forget ! 4 refl $ forget ! 6 refl $ forget ! 8 refl $
         move ! (8 ∷ 9 ∷ []) $ free1 ! $ move ! (6 ∷ 7 ∷ []) $ free1 ! $ move ! (4 ∷ 5 ∷ []) $ free1 ! $ move ! (2 ∷ 3 ∷ []) $ free1 ! $ free1 ! $ free0 ! $ by ! (exits w h e)
 
     -- The rule carried to each word: the arms from number k on, where i is none of the numbers before.
-    cases : (n k : ℕ) → n + k ≡ 256 → (N : Type 0) → (N → k ≤ i) → Cases Go W Before C Λ E Then N (arms-from n k) (256 + i)
-    cases zero k e N past = λ none. absurd (omega (arith, past none))
-    cases (suc n) k e N past = (
+    each-word : (n k : ℕ) → n + k ≡ 256 → (N : Type 0) → (N → k ≤ i) → Cases Go W Before C Λ E Then N (arms-from n k) (256 + i)
+    each-word zero k e N past = λ none. absurd (omega (arith, past none))
+    each-word (suc n) k e N past = (
       λ same. runs-arm (afterBits 8 k) (bits-fit 8 k (omega arith)) (ap (afterBits 8) (sym (same-number i k same))),
-      cases n (suc k) (omega arith) (N × (OneOf ((256 + k) ∷ []) (256 + i) → ⊥)) (λ none. later-number i k (past (none .0)) (none .1)),
+      each-word n (suc k) (omega arith) (N × (OneOf ((256 + k) ∷ []) (256 + i) → ⊥)) (λ none. later-number i k (past (none .0)) (none .1)),
     )
 
   module _ (C : Calls 𝓤 H) (Λ : Loops 𝓤 H) where
@@ -127,7 +131,7 @@ module _ {M : Type 1} (𝓤 : URA M) (H : Heap 𝓤) (A : Atoms 𝓤) (W : Given
         assigns ! (un ! (load ! (from ! (stop !)) (look ! 6 refl)) (record { fits = omega arith })) (from ! (stop !)) (init ! 2 refl (tt, record { fits = omega arith })) $
         assigns ! (bin ! (lit ! tt) (load ! (from ! (stop !)) (look ! 2 refl)) (record { fits = omega arith })) (from ! (stop !)) (init ! 4 refl (tt, record { fits = omega arith })) $
         first ! $ subst (λ (b : Body). Sq W (Before C Λ l₀ l₁ l₂ l₃ l₄) (runs C Λ (E C Λ l₀ l₁ l₂ l₃ l₄) b (Then C Λ l₀ l₁ l₂ l₃ l₄))) (sym rule)
-        (switches ! (load ! (from ! (stop !)) (look ! 4 refl)) (cases C Λ l₀ l₁ l₂ l₃ l₄ 256 0 refl (Unit {0}) (λ _. omega arith))))))))
+        (switches ! (load ! (from ! (stop !)) (look ! 4 refl)) (each-word C Λ l₀ l₁ l₂ l₃ l₄ 256 0 refl (Unit {0}) (λ _. omega arith))))))))
 
 module _ {M : Type 1} (𝓤 : URA M) (H : Heap 𝓤) (A : Atoms 𝓤) (W : Given 𝓤 H A) (mem : Memory → SProp 𝓤) (run : Routine → Fun 𝓤) (𝓣 : Tables 𝓤 H) where
   word-walks : Walks 𝓤 H A word.ended stayed (WpFn 𝓤 H (𝓣 .C) (𝓣 .Λ) code.function) (word.clauses 𝓤 H A mem run)
