@@ -73,8 +73,8 @@ later-number i k most other = omega arith
 abbrev stayed : Stays (word.ended .signature .params) (word.ended .kept)
 stayed = (stay-none (λ _. u8) yes, tt)
 
-abbrev the-rest : Body
-the-rest = seq (assign (place 0 []) (rvOpd (copy (place 4 [])))) return
+abbrev ending : Body
+ending = seq (assign (place 0 []) (rvOpd (copy (place 4 [])))) return
 
 module _ {M : Type 1} (𝓤 : URA M) (H : Heap 𝓤) (A : Atoms 𝓤) (W : Given 𝓤 H A) (mem : Memory → SProp 𝓤) (run : Routine → Fun 𝓤) (i : ℕ) (fits : i < 2 ^ 8) where
   abbrev Post : Val → SProp 𝓤
@@ -90,33 +90,33 @@ module _ {M : Type 1} (𝓤 : URA M) (H : Heap 𝓤) (A : Atoms 𝓤) (W : Given
     abbrev E : Env 𝓤 H
     E = (tyInt w16, l₀) ∷ (tyInt w8, l₁) ∷ (tyInt w16, l₂) ∷ (tyInt w16, l₃) ∷ (tyInt w16, l₄) ∷ []
 
-    -- what is to hold after the match
-    abbrev Then : Kit.Post 𝓤 H
-    Then = anyQ (afterSeq 𝓤 H (Wp 𝓤 H C Λ E the-rest (atReturn 𝓤 H E Post)) (atReturn 𝓤 H E Post))
+    -- what the body goes on to behind the match
+    abbrev Onward : Kit.Post 𝓤 H
+    Onward = anyQ (afterSeq 𝓤 H (Wp 𝓤 H C Λ E ending (atReturn 𝓤 H E Post)) (atReturn 𝓤 H E Post))
 
-    -- the five locals before the match, the last first
-    abbrev Before : List (Item 𝓤)
-    Before =
+    -- what is owned at the match, the word still without a value: locals 4 to 0, and each one's end
+    abbrev Owned : List (Item 𝓤)
+    Owned =
         ‵ (froom (tyInt w16) l₄ 0) ∷ ‵ (fdies (tyInt w16) l₄) ∷ ‵ (fat fullShare (tyInt w16) l₃ 0 (vint w16 i)) ∷ ‵ (fdies (tyInt w16) l₃) ∷ ‵ (fat fullShare (tyInt w16) l₂ 0 (vint w16 (256 + i))) ∷ ‵ (fdies (tyInt w16) l₂)
         ∷ ‵ (fat fullShare (tyInt w8) l₁ 0 (vint w8 i)) ∷ ‵ (fdies (tyInt w8) l₁) ∷ ‵ (froom (tyInt w16) l₀ 0) ∷ ‵ (fdies (tyInt w16) l₀) ∷ []
 
-    operand : (w : ℕ) → w < 2 ^ 16 → (low high : Bool) → Run.Opd Go W Before E (literal low high w) (vint w16 w)
+    operand : (w : ℕ) → w < 2 ^ 16 → (low high : Bool) → Run.Opd Go W Owned E (literal low high w) (vint w16 w)
     operand w h true high = lit ! (lt→ltb w (2 ^ 16) h)
     operand w h false true =
         let e : 2 ^ 16 - (2 ^ 16 - w) ≡ w = omega arith in
-        subst (λ (v : ℕ). Run.Opd Go W Before E (intNeg w16 (2 ^ 16 - w)) (vint w16 v)) e (neg-lit ! (yes-and (ltb 0 (2 ^ 16 - w)) (leb (2 ^ 16 - w) (2 ^ 16)) (lt→ltb 0 (2 ^ 16 - w) (omega arith)) (le→leb (2 ^ 16 - w) (2 ^ 16) (omega arith))))
+        subst (λ (v : ℕ). Run.Opd Go W Owned E (intNeg w16 (2 ^ 16 - w)) (vint w16 v)) e (neg-lit ! (yes-and (ltb 0 (2 ^ 16 - w)) (leb (2 ^ 16 - w) (2 ^ 16)) (lt→ltb 0 (2 ^ 16 - w) (omega arith)) (le→leb (2 ^ 16 - w) (2 ^ 16) (omega arith))))
     operand w h false false = record { go = λ Kt k. via 𝓤 (Kt (vint w16 w)) k (guardI 𝓤 (Fits w16 w) (Kt (vint w16 w)) (record { fits = h })) }
 
-    -- an arm with the word of i
-    runs-arm : (w : ℕ) → w < 2 ^ 16 → w ≡ afterBits 8 i → Sq W Before (runs C Λ E (gives w) Then)
+    -- an arm that gives the word of i: the word is copied to the result and returned
+    runs-arm : (w : ℕ) → w < 2 ^ 16 → w ≡ afterBits 8 i → Sq W Owned (runs C Λ E (gives w) Onward)
     runs-arm w h e =
         assigns-last ! (of-opd ! (operand w h (near w) (near (2 ^ 16 - w)))) (from ! (stop !)) (init ! 0 refl (tt, record { fits = h })) $
-        exec ! C Λ E the-rest (atRet E Post) $ assigns ! (of-opd ! (load ! (from ! (stop !)) (look ! 0 refl))) (from ! (stop !)) (init ! 8 refl (tt, record { fits = h })) $
+        exec ! C Λ E ending (atRet E Post) $ assigns ! (of-opd ! (load ! (from ! (stop !)) (look ! 0 refl))) (from ! (stop !)) (init ! 8 refl (tt, record { fits = h })) $
         returns ! (look ! 8 refl) $ forget ! 0 refl $ forget ! 2 refl $ forget ! 4 refl $ forget ! 6 refl $ forget ! 8 refl $
         move ! (8 ∷ 9 ∷ []) $ free1 ! $ move ! (6 ∷ 7 ∷ []) $ free1 ! $ move ! (4 ∷ 5 ∷ []) $ free1 ! $ move ! (2 ∷ 3 ∷ []) $ free1 ! $ free1 ! $ free0 ! $ by ! (exits w h e)
 
     -- The rule carried to each word: the arms from number k on, where i is none of the numbers before.
-    each-word : (n k : ℕ) → n + k ≡ 256 → (N : Type 0) → (N → k ≤ i) → Cases Go W Before C Λ E Then N (arms-from n k) (256 + i)
+    each-word : (n k : ℕ) → n + k ≡ 256 → (N : Type 0) → (N → k ≤ i) → Cases Go W Owned C Λ E Onward N (arms-from n k) (256 + i)
     each-word zero k e N past = λ none. absurd (omega (arith, past none))
     each-word (suc n) k e N past = (
       λ same. runs-arm (afterBits 8 k) (bits-fit 8 k (omega arith)) (ap (afterBits 8) (sym (same-number i k same))),
@@ -130,7 +130,7 @@ module _ {M : Type 1} (𝓤 : URA M) (H : Heap 𝓤) (A : Atoms 𝓤) (W : Given
         alloc1 ! (λ l₀. alloc1 ! (λ l₁. alloc1 ! (λ l₂. alloc1 ! (λ l₃. alloc1 ! (λ l₄. alloc0 ! $ params1 ! $ pass1 ! (init ! 6 refl (tt, record { fits = fits })) $ pass0 ! $
         assigns ! (un ! (load ! (from ! (stop !)) (look ! 6 refl)) (record { fits = omega arith })) (from ! (stop !)) (init ! 2 refl (tt, record { fits = omega arith })) $
         assigns ! (bin ! (lit ! tt) (load ! (from ! (stop !)) (look ! 2 refl)) (record { fits = omega arith })) (from ! (stop !)) (init ! 4 refl (tt, record { fits = omega arith })) $
-        first ! $ subst (λ (b : Body). Sq W (Before C Λ l₀ l₁ l₂ l₃ l₄) (runs C Λ (E C Λ l₀ l₁ l₂ l₃ l₄) b (Then C Λ l₀ l₁ l₂ l₃ l₄))) (sym rule)
+        first ! $ subst (λ (b : Body). Sq W (Owned C Λ l₀ l₁ l₂ l₃ l₄) (runs C Λ (E C Λ l₀ l₁ l₂ l₃ l₄) b (Onward C Λ l₀ l₁ l₂ l₃ l₄))) (sym rule)
         (switches ! (load ! (from ! (stop !)) (look ! 4 refl)) (each-word C Λ l₀ l₁ l₂ l₃ l₄ 256 0 refl (Unit {0}) (λ _. omega arith))))))))
 
 module _ {M : Type 1} (𝓤 : URA M) (H : Heap 𝓤) (A : Atoms 𝓤) (W : Given 𝓤 H A) (mem : Memory → SProp 𝓤) (run : Routine → Fun 𝓤) (𝓣 : Tables 𝓤 H) where
