@@ -7,13 +7,14 @@ use native.Mathlib.Omega.{arith}
 use lib.Bits.{bitXor, xor-lt, xor-shr, xor-zero-r, xor-shifted}
 use lib.Dec.{lit<}
 use Rattle.lists.specs.Tests.{when_then_else_, _=?_}
+use Rattle.lists.proofs.Laws.{when-either}
 use Rattle.fcs.specs.Fcs.{polynomial, afterBit, afterBits, afterByte}
 use Rattle.fcs.proofs.Xor.{last-digit, xor-assoc}
 
-either : (odd : Bool) (h c : ℕ) → when odd then bitXor (bitXor h c) polynomial else bitXor h c ≡ bitXor h (when odd then bitXor c polynomial else c)
+xor-when : (odd : Bool) (h c : ℕ) → when odd then bitXor (bitXor h c) polynomial else bitXor h c ≡ bitXor h (when odd then bitXor c polynomial else c)
 unfolding when_then_else_
-either true h c = xor-assoc h c polynomial
-either false h c = refl
+xor-when true h c = xor-assoc h c polynomial
+xor-when false h c = refl
 
 -- one step: h stands above the lowest bit
 above-bit : (h c : ℕ) → afterBit (bitXor (h * 2) c) ≡ bitXor h (afterBit c)
@@ -21,7 +22,7 @@ unfolding afterBit
 above-bit h c =
     let even : h * 2 % 2 ≡ 0 = omega arith in
     let half : h * 2 / 2 ≡ h = omega arith in
-    rw (last-digit (h * 2) c, even, xor-shr (h * 2) c 1, half) (either (c % 2 =? 1) h (c / 2))
+    rw (last-digit (h * 2) c, even, xor-shr (h * 2) c 1, half) (xor-when (c % 2 =? 1) h (c / 2))
 
 -- n steps: h stands above the lowest n bits
 above-bits : (n h c : ℕ) → afterBits n (bitXor (h * 2 ^ n) c) ≡ bitXor h (afterBits n c)
@@ -40,14 +41,9 @@ byte-step c b h =
     ap (afterBits 8) (split ∙ ap (λ (q : ℕ). bitXor (q * 2 ^ 8) (x % 256)) high) ∙ above-bits 8 (c / 256) (x % 256)
 
 -- A register of sixteen bits stays one.
-fits-either : (odd : Bool) (a b : ℕ) → a < 2 ^ 16 → b < 2 ^ 16 → (when odd then a else b) < 2 ^ 16
-unfolding when_then_else_
-fits-either true a b ha hb = ha
-fits-either false a b ha hb = hb
-
 bit-fits : (c : ℕ) → c < 2 ^ 16 → afterBit c < 2 ^ 16
 unfolding afterBit
-bit-fits c h = fits-either (c % 2 =? 1) _ _ (xor-lt 16 (c / 2) polynomial (omega arith) (lit< tt)) (omega arith)
+bit-fits c h = when-either (λ (r : ℕ). r < 2 ^ 16) (c % 2 =? 1) _ _ (λ _. xor-lt 16 (c / 2) polynomial (omega arith) (lit< tt)) (λ _. omega arith)
 
 pub bits-fit : (n c : ℕ) → c < 2 ^ 16 → afterBits n c < 2 ^ 16
 bits-fit zero c h = h
