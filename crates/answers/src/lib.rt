@@ -1,4 +1,5 @@
 // What a call says.
+#![tactic(auto)]
 ghost use Rattle.std.specs.Prelude.{◌≡◌};
 ghost use Rattle.verdict.specs.Verdict.{reason_number};
 ghost use Rattle.answers.specs.Answer.{check_number, Tells, Hands, TakesNothing};
@@ -10,7 +11,7 @@ use panel::Panel;
 use verdict::Reason;
 
 // The checks of the calls, in the order of their numbers.
-#[derive(Drop)]
+#[derive(Clone, Copy)]
 pub enum Check {
     StateRange,
     PieceSize,
@@ -26,7 +27,7 @@ pub enum Check {
 
 // A stray, a done command and a refused packet carry the command, a refused packet its reason and place too; a call that is
 // refused by number carries the check that failed.
-#[derive(Drop)]
+#[derive(Clone, Copy)]
 pub enum Answer {
     Waiting,
     Stray(u8),
@@ -36,7 +37,7 @@ pub enum Answer {
 }
 
 // The panel after a call, its answer and counts, the reply's length and how many cells were listed.
-#[derive(Drop)]
+#[derive(Clone, Copy)]
 pub struct Said {
     pub panel: Panel,
     pub answer: Answer,
@@ -46,7 +47,7 @@ pub struct Said {
 }
 
 // An answer in the paper's numbers, 0 for what it does not have.
-#[derive(Drop)]
+#[derive(Clone, Copy)]
 pub struct Numbers {
     pub number: u8,
     pub command: u8,
@@ -55,14 +56,14 @@ pub struct Numbers {
 }
 
 // Whether an answer is a refused packet, and the key to file it under.
-#[derive(Drop)]
+#[derive(Clone, Copy)]
 pub struct Filing {
     pub refused: bool,
     pub key: Refusal,
 }
 
 // How checks come out: all pass, or the first that fails.
-#[derive(Drop)]
+#[derive(Clone, Copy)]
 pub enum Checked {
     Passes,
     Fails(Check),

@@ -1,4 +1,5 @@
 // A piece of the line for the whole panel, by value, with the filing of what is refused.
+#![tactic(auto)]
 ghost use Rattle.std.specs.Prelude.{◌≡◌, length};
 ghost use Rattle.answers.specs.Answer.{with_unfiled};
 ghost use Rattle.linecall.specs.Line.{said_with, lent, LineCall};
@@ -12,7 +13,7 @@ use perform::Performed;
 use register::run::file;
 
 // What a call says, and what is to be filed.
-#[derive(Drop)]
+#[derive(Clone, Copy)]
 struct Spoken {
     said: Said,
     filing: Filing,

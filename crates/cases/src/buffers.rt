@@ -2,7 +2,7 @@
 use session::sizes::{FAULTS, FONT, PICTURE, SAID, STATE};
 
 // Each as the last call left it, and what that call said.
-#[derive(Drop)]
+#[derive(Clone, Copy)]
 pub struct Buffers {
     pub state: [u8; STATE],
     pub picture: [u8; PICTURE],

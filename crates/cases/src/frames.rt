@@ -8,7 +8,7 @@ use packets::Hold;
 use std::num::wrapping_add_usize;
 
 // What calls come to, besides their packets; of the last one what it took and whether it found a packet.
-#[derive(Drop)]
+#[derive(Clone, Copy)]
 struct Sums {
     hold: Hold,
     taken: usize,

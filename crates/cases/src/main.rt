@@ -17,6 +17,7 @@
 // Of recordings: "tape" puts bytes behind those of the case's recording, and "fill" a number of times the byte behind that number;
 // "next" asks for the next host packet from a place on and prints what the call says, and the packet's data.
 
+#![tactic(auto)]
 mod buffers;
 mod device;
 mod frames;

@@ -6,7 +6,7 @@ use panel::Panel;
 use session::sizes::{FAULTS, LIST, REPLY, SAID, STATE};
 
 // What the call says, and the register after it.
-#[derive(Drop)]
+#[derive(Clone, Copy)]
 struct Called {
     said: Said,
     register: [Record; RECORDS],

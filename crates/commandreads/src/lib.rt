@@ -1,4 +1,5 @@
 // A packet's code and data read back as a command, where the panel allows them.
+#![tactic(auto)]
 ghost use Rattle.std.specs.Prelude.{◌≡◌, true, ◌≤◌};
 ghost use Rattle.table.specs.Table.{table, look_up};
 ghost use Rattle.commandreads.specs.Backwards.{candidates, first_with, ReadsCommand};
@@ -7,7 +8,7 @@ use commands::Command;
 use verdict::Verdict;
 
 // The command of a packet that the panel allows, or none.
-#[derive(Drop)]
+#[derive(Clone, Copy)]
 pub enum Named {
     Is(Command),
     None,

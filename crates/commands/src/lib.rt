@@ -1,4 +1,5 @@
 // The commands as values, for a host: each with its plain values, composed as a packet.
+#![tactic(auto)]
 ghost use Rattle.std.specs.Prelude.{◌≡◌, true, false, ◌++◌, ◌≤◌, take};
 ghost use Rattle.composer.specs.Compose.{ComposesFor};
 ghost use Rattle.commands.specs.Commands.{values_most, form_of, head_of, ComposesCommand, ReadsBytes};
@@ -8,7 +9,7 @@ use packets::CONTENT;
 
 // The eighteen commands, the one that sets a pin with and without its config. The bytes of a ping, of the flash, of a glyph's rows
 // and of a text stand beside the command, in a slice.
-#[derive(Drop)]
+#[derive(Clone, Copy)]
 pub enum Command {
     Ping,
     Version,
@@ -38,7 +39,7 @@ const VALUES: usize = 3;
 const ROOM: usize = CONTENT + 1;
 
 // The code of a command, the values that its data begins with, and whether bytes follow them.
-#[derive(Drop)]
+#[derive(Clone, Copy)]
 struct Head {
     code: u8,
     count: usize,

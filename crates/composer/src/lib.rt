@@ -1,4 +1,5 @@
 // Composing a command's packet for a host. What the panel would refuse is refused here, by the panel's own verdict.
+#![tactic(auto)]
 ghost use Rattle.std.specs.Prelude.{◌≡◌};
 ghost use Rattle.verdict.specs.Verdict.{verdict_of};
 ghost use Rattle.composer.specs.Compose.{ComposesFor};
@@ -11,7 +12,7 @@ const CODE: u32 = 63;
 
 // How composing comes out: the buffer is not 26 bytes; the panel would refuse the packet, with its command, reason and place; or it
 // is written, with its command and its length.
-#[derive(Drop)]
+#[derive(Clone, Copy)]
 pub enum Composing {
     BufferSize,
     Refused(u8, Reason, u8),

@@ -1,5 +1,6 @@
 // The panel on standard input and output: host bytes in, reply packets out, so that a real host can be attached. With the
 // argument `glass` it also draws the glass on standard error, and with `record FILE` it writes a recording of the line.
+#![tactic(auto)]
 mod font;
 mod glass;
 mod tape;

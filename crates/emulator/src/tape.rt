@@ -12,7 +12,7 @@ pub const ENTRY: usize = LONGEST;
 
 // Whether the line is recorded, and where; how many bytes the file has; how many of the host's and of the panel's wait to be
 // written.
-#[derive(Drop)]
+#[derive(Clone, Copy)]
 pub struct Tape {
     pub on: bool,
     pub file: i32,

@@ -1,4 +1,5 @@
 // A register of free records, and what filing does with one record and with the unfiled number: all on plain values.
+#![tactic(auto)]
 ghost use Rattle.filing.specs.Filing.{FilesOne, Unfiles, Empties};
 
 // How many records a register has.
@@ -8,7 +9,7 @@ pub const RECORDS: usize = 64;
 pub const MOST: u32 = 4294967295;
 
 // A record of the register. A count of 0 makes it free, whatever its key.
-#[derive(Drop)]
+#[derive(Clone, Copy)]
 pub struct Record {
     pub command: u8,
     pub reason: u8,
@@ -17,7 +18,7 @@ pub struct Record {
 }
 
 // The key of a refusal.
-#[derive(Drop)]
+#[derive(Clone, Copy)]
 pub struct Refusal {
     pub command: u8,
     pub reason: u8,
@@ -25,7 +26,7 @@ pub struct Refusal {
 }
 
 // A record and the unfiled number after a filing.
-#[derive(Drop)]
+#[derive(Clone, Copy)]
 pub struct Filed {
     pub fault: Record,
     pub unfiled: u32,

@@ -1,4 +1,5 @@
 // The programs' font.
+#![tactic(auto)]
 ghost use Rattle.font.specs.Font.{IsFont};
 
 use picture::repaint::FONT;

@@ -1,6 +1,7 @@
 // A call's scan of a piece of the line: judge, on a wait take more bytes, end at the first packet or when the piece is used
 // up. The judged bytes stand where they came, in the piece; those of earlier calls stand in a window with the piece's first.
 // Nothing here knows of any command.
+#![tactic(auto)]
 ghost use Rattle.std.specs.Prelude.{◌≡◌, ◌+◌, ◌≤◌, length, take, drop};
 ghost use Rattle.packets.specs.Judge.{length_byte};
 ghost use Rattle.packets.specs.Packet.{content_most};
@@ -17,7 +18,7 @@ pub const LONGEST: usize = 65535;
 const WINDOW: usize = 2 * HELD;
 
 // The bytes that a call took from the piece, dropped from the line and ran through the checksum.
-#[derive(Drop)]
+#[derive(Clone, Copy)]
 pub struct Counts {
     pub taken: usize,
     pub dropped: usize,
@@ -25,7 +26,7 @@ pub struct Counts {
 }
 
 // What a call finds and reports. Where no packet was found, the packet is all zeros.
-#[derive(Drop)]
+#[derive(Clone, Copy)]
 pub struct Scanned {
     pub hold: Hold,
     pub found: bool,
@@ -34,7 +35,7 @@ pub struct Scanned {
 }
 
 // Where a walk over bytes ends: those from `start` up to `end` are held, a packet at their front or waiting for more.
-#[derive(Drop)]
+#[derive(Clone, Copy)]
 struct Walked {
     found: bool,
     start: usize,

@@ -1,11 +1,12 @@
 // What a program keeps from call to call besides the bytes that it lends.
+#![tactic(auto)]
 ghost use Rattle.kept.specs.Session.{StartsSession, Goes, PieceCame, CallMade};
 
 use tally::{CallTold, REFUSED, Sums, WAITING};
 
 // Which bytes of the piece no call has taken yet; whether no more calls are made, and whether a failed read or lost output is
 // why; the last call and the sums of all.
-#[derive(Drop)]
+#[derive(Clone, Copy)]
 pub struct Session {
     pub at: usize,
     pub end: usize,

@@ -1,4 +1,5 @@
 // The line program: host bytes on standard input, a line of text a packet on standard output.
+#![tactic(auto)]
 use kept::{Session, going};
 use libc::{STDERR_FILENO, STDOUT_FILENO};
 use session::sizes::{FAULTS, FONT, LIST, PICTURE, PIECE, REPLY, SAID, STATE};

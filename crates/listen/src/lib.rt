@@ -1,4 +1,5 @@
 // The line's part of a call: its checks, the scan, what a packet is answered, and the error reply. It knows no body.
+#![tactic(auto)]
 ghost use Rattle.std.specs.Prelude.{◌≡◌};
 ghost use Rattle.listen.specs.Reply.{AnswersTo, RepliesRefused};
 ghost use Rattle.listen.specs.Listen.{answer_in, ChecksLine, HearsPiece};
@@ -15,7 +16,7 @@ use verdict::Verdict;
 pub const PIECE: usize = 4096;
 
 // The sizes of what is lent for the picture and the register; the piece and the reply buffer are lent to `hear`.
-#[derive(Drop)]
+#[derive(Clone, Copy)]
 pub struct Sizes {
     pub picture: usize,
     pub font: usize,
@@ -24,7 +25,7 @@ pub struct Sizes {
 }
 
 // The line's part after a call, its answer, the packet that it found, its counts and the error reply's length.
-#[derive(Drop)]
+#[derive(Clone, Copy)]
 pub struct Heard {
     pub line: Line,
     pub answer: Answer,

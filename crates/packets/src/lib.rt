@@ -1,4 +1,5 @@
 // Packets: the held bytes, the judgement at the oldest of them, and composing a packet. Nothing here knows of any command.
+#![tactic(auto)]
 ghost use Rattle.std.specs.Prelude.{◌≡◌, ◌+◌, ◌<◌, ◌≤◌, length};
 ghost use Rattle.packets.specs.Hold.{HoldsNothing};
 ghost use Rattle.packets.specs.Judge.{length_byte, checksum_right, Judges};
@@ -8,7 +9,7 @@ ghost use Rattle.packets.specs.Packet.{content_most, Composes};
 pub const HELD: usize = 25;
 
 // Oldest first. The bytes behind the count are no part of what is held.
-#[derive(Drop)]
+#[derive(Clone, Copy)]
 pub struct Hold {
     pub bytes: [u8; HELD],
     pub count: usize,
@@ -31,7 +32,7 @@ pub const REPLY: usize = CONTENT + 4;
 
 // What becomes of the oldest byte: more must come first, it goes because the length is above 22 or because the
 // checksum is wrong, or a packet begins with it.
-#[derive(Drop)]
+#[derive(Clone, Copy)]
 pub enum Judgement {
     Wait,
     LongLength,
@@ -71,7 +72,7 @@ pub fn judge(held: &[u8]) -> Judgement
 }
 
 // Type, length and data; zeros behind the data.
-#[derive(Drop)]
+#[derive(Clone, Copy)]
 pub struct Packet {
     pub kind: u8,
     pub length: usize,

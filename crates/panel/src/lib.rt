@@ -1,4 +1,5 @@
 // The panel's state, by value: what it is made of and how it starts. The line's part and the body never read each other.
+#![tactic(auto)]
 ghost use Rattle.std.specs.Prelude.{◌≡◌};
 ghost use Rattle.panel.specs.State.{factory_settings, Starts};
 
@@ -16,26 +17,26 @@ pub const INPUTS: usize = 5;
 pub const FLASH_BYTES: usize = 16;
 
 // The line's part: the held bytes, and how many refusals no record of the register holds.
-#[derive(Drop)]
+#[derive(Clone, Copy)]
 pub struct Line {
     pub hold: Hold,
     pub unfiled: u32,
 }
 
 // What is shown: the 80 codes, and the special glyphs of eight rows each, one glyph behind the other.
-#[derive(Drop)]
+#[derive(Clone, Copy)]
 pub struct Shown {
     pub text: [u8; CODES],
     pub glyphs: [u8; GLYPH_ROWS],
 }
 
-#[derive(Drop)]
+#[derive(Clone, Copy)]
 pub struct Cursor {
     pub column: u8,
     pub row: u8,
 }
 
-#[derive(Drop)]
+#[derive(Clone, Copy)]
 pub struct Dials {
     pub style: u8,
     pub contrast: u8,
@@ -43,21 +44,21 @@ pub struct Dials {
 }
 
 // Which key presses and releases are reported: a bit for each key.
-#[derive(Drop)]
+#[derive(Clone, Copy)]
 pub struct Masks {
     pub press: u8,
     pub release: u8,
 }
 
 // Levels of all 13 pins, configs of pins 0 to 4.
-#[derive(Drop)]
+#[derive(Clone, Copy)]
 pub struct Wires {
     pub levels: [u8; PINS],
     pub configs: [u8; INPUTS],
 }
 
 // What command 4 stores and command 5 brings back.
-#[derive(Drop)]
+#[derive(Clone, Copy)]
 pub struct Settings {
     pub shown: Shown,
     pub cursor: Cursor,
@@ -67,7 +68,7 @@ pub struct Settings {
 }
 
 // Command 24's three bytes: a bit for each key.
-#[derive(Drop)]
+#[derive(Clone, Copy)]
 pub struct Keys {
     pub down: u8,
     pub pressed: u8,
@@ -75,7 +76,7 @@ pub struct Keys {
 }
 
 // Of pins 0 to 4, a bit for each: the last level, and whether it fell or rose since it was read.
-#[derive(Drop)]
+#[derive(Clone, Copy)]
 pub struct Pins {
     pub last: u8,
     pub fell: u8,
@@ -83,7 +84,7 @@ pub struct Pins {
 }
 
 // All that a command reads or changes. The sets are those of the live text: which cells draw each special glyph.
-#[derive(Drop)]
+#[derive(Clone, Copy)]
 pub struct Body {
     pub live: Settings,
     pub boot: Settings,
@@ -93,7 +94,7 @@ pub struct Body {
     pub sets: [u8; CODES],
 }
 
-#[derive(Drop)]
+#[derive(Clone, Copy)]
 pub struct Panel {
     pub line: Line,
     pub body: Body,

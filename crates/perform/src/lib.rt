@@ -1,11 +1,12 @@
 // The body's part of a call: a command carried out, its reply and the repaint. It knows no line.
+#![tactic(auto)]
 ghost use Rattle.perform.specs.Perform.{Replies, Performs};
 
 use packets::{CONTENT, Packet};
 use panel::Body;
 
 // The body after a command, its reply's length and how many cells were listed.
-#[derive(Drop)]
+#[derive(Clone, Copy)]
 pub struct Performed {
     pub body: Body,
     pub reply: usize,

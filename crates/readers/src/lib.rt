@@ -1,11 +1,12 @@
 // Reading a recording: the next host packet from a place on, with its data bytes as a part of the recording itself, by a plain reader
 // over the recording and a place, and by a small one that keeps the two together.
+#![tactic(auto)]
 ghost use Rattle.readers.specs.Handed.{PartOf, HandsBack, ReadsFrom};
 
 use recordings::find;
 
 // What asking hands back: the data bytes are a part of the recording, empty without a packet.
-#[derive(Drop)]
+#[derive(Clone, Copy)]
 pub struct Handed<'a> {
     pub number: u8,
     pub kind: u8,
@@ -14,7 +15,7 @@ pub struct Handed<'a> {
 }
 
 // A recording and a place in it.
-#[derive(Drop)]
+#[derive(Clone, Copy)]
 pub struct Reader<'a> {
     pub recording: &'a [u8],
     pub place: usize,

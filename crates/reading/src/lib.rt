@@ -1,5 +1,6 @@
 // What a panel writes, read back into values: exactly one reply, error reply or report that a panel in its ranges can write, or
 // nothing.
+#![tactic(auto)]
 ghost use Rattle.std.specs.Prelude.{◌≡◌, ◌≤◌, length};
 ghost use Rattle.lists.specs.Tests.{all_at_most};
 ghost use Rattle.packets.specs.Packet.{content_most};
@@ -18,7 +19,7 @@ const POLL: usize = 3;
 const PIN: usize = 4;
 
 // What some bytes mean. A reply and an error reply carry the command; a report the key's number and whether it went down.
-#[derive(Drop)]
+#[derive(Clone, Copy)]
 pub enum Meaning {
     Unreadable,
     Reply(u8),
@@ -27,7 +28,7 @@ pub enum Meaning {
 }
 
 // The values of a reply are its data bytes, zeros behind them; what is no reply has none.
-#[derive(Drop)]
+#[derive(Clone, Copy)]
 pub struct Reading {
     pub meaning: Meaning,
     pub count: usize,

@@ -1,5 +1,6 @@
 // The recording program: a line recording on standard input, a line of text a host packet on standard output. The whole recording is
 // checked first, and its entries are then walked once.
+#![tactic(auto)]
 use libc::{STDERR_FILENO, STDIN_FILENO, STDOUT_FILENO};
 use recordings::{AHEAD, ENTRIES, Fault, Found, PACKET};
 use wording::filled;
@@ -8,14 +9,14 @@ use wording::filled;
 const LINE: usize = 200;
 
 // How many bytes were read, and whether a read failed.
-#[derive(Drop)]
+#[derive(Clone, Copy)]
 struct Got {
     count: usize,
     failed: bool,
 }
 
 // What was listed so far, and whether output was lost.
-#[derive(Drop)]
+#[derive(Clone, Copy)]
 struct Listed {
     packets: u64,
     entries: u64,

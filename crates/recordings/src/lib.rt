@@ -1,5 +1,6 @@
 // Line recordings: the check of a whole recording, and its host packets from a place on, as places in it. Nothing here knows of any
 // command.
+#![tactic(auto)]
 ghost use Rattle.std.specs.Prelude.{◌≡◌, ◌+◌, ◌<◌, ◌≤◌, max, min, length, get_or};
 ghost use Rattle.recordings.specs.Recording.{entries_start, entry_size, marked, versioned, entries_of, entry_fault, first_faulty, fault_of, ChecksRecording, Passes};
 ghost use Rattle.recordings.specs.Next.{before, from_of, packet_from, no_packet, first_packet, FindsIn, Finds};
@@ -32,7 +33,7 @@ pub const NO_MORE: u8 = 1;
 pub const PACKET: u8 = 3;
 
 // What the check of a recording finds: a number, and the byte that it is about.
-#[derive(Drop)]
+#[derive(Clone, Copy)]
 pub struct Fault {
     pub number: u8,
     pub place: usize,
@@ -40,7 +41,7 @@ pub struct Fault {
 
 // What asking comes to, as places: where the data bytes start and how many there are, and the place to ask from for the packet
 // behind. Without a packet these are 0, 0 and the place as it came.
-#[derive(Drop)]
+#[derive(Clone, Copy)]
 pub struct Found {
     pub number: u8,
     pub kind: u8,

@@ -7,7 +7,7 @@ use crate::search::{Seen, seen_more, slot_of};
 use filing::{RECORDS, Record, Refusal, filed_in, unfiled_more};
 
 // A register and the unfiled number after a filing.
-#[derive(Drop)]
+#[derive(Clone, Copy)]
 pub struct FiledIn {
     pub register: [Record; RECORDS],
     pub unfiled: u32,

@@ -7,7 +7,7 @@ use filing::{Record, Refusal};
 
 // What a search of the first records shows: the first in use with the key, and the first free one; where there is none,
 // as many records as were seen.
-#[derive(Drop)]
+#[derive(Clone, Copy)]
 pub struct Seen {
     pub known: usize,
     pub free: usize,

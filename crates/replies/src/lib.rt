@@ -1,4 +1,5 @@
 // What a command replies.
+#![tactic(auto)]
 ghost use Rattle.std.specs.Prelude.{◌≡◌, ◌∷◌, ◌+◌, ◌-◌, ◌≤◌, length, get_or};
 ghost use Rattle.packets.specs.Packet.{packet_of};
 ghost use Rattle.glyphs.specs.Glyphs.{eight_from};

@@ -1,4 +1,5 @@
 // What a call says, written as 16 bytes.
+#![tactic(auto)]
 ghost use Rattle.saidbytes.specs.Says.{Says, SaysRefused};
 
 use answers::{Answer, Check};

@@ -1,4 +1,5 @@
 // What the programs share: the calls on standard input's bytes until each piece waits for more, and what is told of them.
+#![tactic(auto)]
 ghost use Rattle.std.specs.Prelude.{◌≡◌};
 ghost use Rattle.session.specs.Calls.{held_in, CallsOn};
 

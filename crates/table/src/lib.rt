@@ -1,10 +1,11 @@
 // The table of the commands: which lengths and which data each allows.
+#![tactic(auto)]
 ghost use Rattle.std.specs.Prelude.{◌≡◌, true};
 ghost use Rattle.table.specs.Table.{Looks, Allows};
 
 // The column "data allowed". Free: any bytes. UpTo(n): each byte 0 to n. Glyph: an index of a glyph, then rows. Address: an
 // address that can be read. Place: a column and a row, then any text. Reboot: 8, 18, 99. Pin: a pin, a level, a config.
-#[derive(Drop)]
+#[derive(Clone, Copy)]
 pub enum Rule {
     Free,
     UpTo(u8),
@@ -16,7 +17,7 @@ pub enum Rule {
 }
 
 // A row of the table; `known` is false for a code that has none.
-#[derive(Drop)]
+#[derive(Clone, Copy)]
 pub struct Row {
     pub known: bool,
     pub shortest: usize,

@@ -1,4 +1,5 @@
 // What is added up from call to call, in sums that stop at the largest number.
+#![tactic(auto)]
 ghost use Rattle.std.specs.Prelude.{◌≡◌, ◌-◌};
 ghost use Rattle.tally.specs.Sums.{sum_of, offset_of, packets_by, SumsCall};
 
@@ -8,7 +9,7 @@ pub const WAITING: u8 = 1;
 pub const REFUSED: u8 = 10;
 
 // What a call says: the numbers of its answer, its counts, its reply's length and how many cells it lists.
-#[derive(Drop)]
+#[derive(Clone, Copy)]
 pub struct CallTold {
     pub number: u8,
     pub command: u8,
@@ -23,7 +24,7 @@ pub struct CallTold {
 
 // How many packets were found; where the last one began, from the first byte of the input; the bytes taken, dropped and run
 // through the checksum.
-#[derive(Drop)]
+#[derive(Clone, Copy)]
 pub struct Sums {
     pub events: u64,
     pub offset: u64,

@@ -1,12 +1,13 @@
 // Why a packet is refused: the verdict on a command and its data bytes, the first reason that applies with its place, or none.
 // It stands apart from carrying a command out, since whoever composes commands asks it too.
+#![tactic(auto)]
 ghost use Rattle.std.specs.Prelude.{◌≡◌, ◌<◌, ◌≤◌, length};
 ghost use Rattle.verdict.specs.Verdict.{in_range, first_out, is_reboot, whole_verdict, Rules};
 
 use table::Rule;
 
 // The reasons, in the order in which they are looked for.
-#[derive(Drop)]
+#[derive(Clone, Copy)]
 pub enum Reason {
     UnknownCommand,
     LengthNotAllowed,
@@ -15,7 +16,7 @@ pub enum Reason {
     NotTheReboot,
 }
 
-#[derive(Drop)]
+#[derive(Clone, Copy)]
 pub enum Verdict {
     Allowed,
     Refused(Reason, u8),

@@ -1,4 +1,5 @@
 // Text put together in a lent buffer.
+#![tactic(auto)]
 ghost use Rattle.std.specs.Prelude.{◌≡◌, [], ◌∷◌, get_or};
 ghost use Rattle.wording.specs.Text.{text, ◌then◌, decimal, FillsForm};
 
