@@ -1,5 +1,6 @@
 // A register of free records, and what filing does with one record and with the unfiled number: all on plain values.
 #![tactic(auto)]
+
 ghost use Rattle.filing.specs.Filing.{FilesOne, Unfiles, Empties};
 
 // How many records a register has.
