@@ -1,5 +1,6 @@
 // Single bits of a byte, by their number.
 #![tactic(auto)]
+
 ghost use Rattle.std.specs.Prelude.{◌≡◌, ◌^◌, ◌<◌};
 ghost use Rattle.bits.specs.Bits.{Asks, SetsBit, Clears};
 
