@@ -58,7 +58,8 @@ module _ {A : Type 0} (m : ℕ) where
       let l : length (before ++ f x) ≡ k + m = omega (arith, length-append before (f x), sized x h.0) in
       let first = one x h.0 before rest k e in
       let others = collected_joined f g P sized one xs h.1 (before ++ f x) after (k + m) l in
-      rw (append_assoc (f x) (joined f xs) after) (λ i. first i ∷ (rw (append_assoc before (f x) rest) at others) i)
+      let same : before ++ (joined f (x ∷ xs) ++ after) ≡ before ++ (f x ++ rest) = ap (λ (l : List ℕ). before ++ l) (append_assoc (f x) (joined f xs) after) in
+      ap (λ (l : List ℕ). collected (g l) (length (x ∷ xs)) k m) same ∙ (λ i. first i ∷ (rw (append_assoc before (f x) rest) at others) i)
 
   -- what is collected is joined again
   pub joined_collected : (f : A → List ℕ) (g : ℕ → A) (b : List ℕ) → ((k : ℕ) → k + m ≤ length b → f (g k) ≡ take m (drop k b))
