@@ -1,5 +1,6 @@
 // The eight special glyphs: an array of eight-byte arrays while they are set or drawn, flat in the state; and which codes draw them.
 #![tactic(auto)]
+
 ghost use Rattle.std.specs.Prelude.{◌≡◌, set};
 ghost use Rattle.glyphs.specs.Glyphs.{flat_of, Reads8, Nests, SetsGlyph};
 ghost use Rattle.glyphs.specs.Source.{TellsSpecial};

@@ -1,9 +1,0 @@
-use mathlib.Core.Path.{refl}
-use Rattle.glyphs.proofs.is_special.Statement.{statement}
-use Rattle.glyphs.proofs.is_special.Tie as tie
-
-returns : tie.Need-returns
-returns c = refl
-
-pub is-special-spec : {M : Type 1} → statement M
-is-special-spec = tie.close (tie.spec returns)
