@@ -1,12 +1,10 @@
-use Prim.Native.Nat.{◌≤◌, ◌<◌, ◌-◌, ◌+◌}
+use Prim.Native.Nat.{◌<◌, ◌+◌}
 use mathlib.Core.Path.{◌≡◌, refl, sym, ◌∙◌}
-use mathlib.Core.Logic.{⊎_elim}
 use native.Mathlib.Omega.{arith}
 use lib.ListN.{length, length-set}
 use lib.Seq.{paste-zero}
-use lib.Seq as seq
 use borrow.Author.Rules.{rules}
-use borrow.Author.Tests.{ltb-true, ltb-false}
+use borrow.Author.Tests.{ltb-false}
 use Rattle.lists.proofs.Laws.{paste_turn, pasted_fits, pasted_refused}
 use Rattle.lists.proofs.paste.Goals as goal
 use Rattle.lists.proofs.paste.Goals.{then-out-place-via-then-out-place, then-out-place-via-else-out-place+then-out-place-2}
@@ -14,8 +12,8 @@ use Rattle.lists.proofs.paste.Goals.{then-out-place-via-then-out-place, then-out
 pub returns-then-out-place : goal.returns-then-out-place
 returns-then-out-place c =
     let short : length c.args.out.now < c.args.place + length c.args.run.now = elim c.then-out-place.branch [
-      then-out-place-via-then-out-place w ↦ omega arith
-    | then-out-place-via-else-out-place+then-out-place-2 w ↦ omega arith
+      | then-out-place-via-then-out-place w ↦ omega arith
+      | then-out-place-via-else-out-place+then-out-place-2 w ↦ omega arith
     ] in
     sym (pasted_refused c.args.out.now c.args.place c.args.run.now short)
 
