@@ -1,5 +1,6 @@
 // What is added up from call to call, in sums that stop at the largest number.
 #![tactic(auto)]
+
 ghost use Rattle.std.specs.Prelude.{◌≡◌, ◌-◌};
 ghost use Rattle.tally.specs.Sums.{sum_of, offset_of, packets_by, SumsCall};
 
