@@ -1,5 +1,6 @@
 // The table of the commands: which lengths and which data each allows.
 #![tactic(auto)]
+
 ghost use Rattle.std.specs.Prelude.{◌≡◌, true};
 ghost use Rattle.table.specs.Table.{Looks, Allows};
 
