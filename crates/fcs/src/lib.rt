@@ -1,5 +1,6 @@
 // The checksum: the 16-bit FCS of RFC 1662, a byte at a time by the data sheet's table.
 #![tactic(auto)]
+
 ghost use Rattle.std.specs.Prelude.{◌≡◌};
 ghost use Rattle.fcs.specs.Fcs.{after_byte, after_bytes, all_ones, Checksums};
 
