@@ -1,6 +1,7 @@
 // The cells that draw each special glyph, kept beside the text: a byte for each cell, 1 + the number of the glyph whose set it is
 // in, 0 where it is in none. So the test of 80 cells, which every call makes, is a few steps for sixteen cells at a time.
 #![tactic(auto)]
+
 ghost use Rattle.std.specs.Prelude.{◌≡◌};
 ghost use Rattle.sets.specs.Sets.{mark_of, Searches, ComparesSets};
 
