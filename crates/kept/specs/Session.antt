@@ -1,5 +1,5 @@
 -- What a program keeps from call to call.
-use Rattle.std.specs.Prelude.{ℕ, ◌≡◌, Bool, true, false, ◌&&◌, not}
+use Rattle.std.specs.Prelude.{ℕ, ◌≡◌, Bool, false, ◌&&◌, not}
 use Rattle.lists.specs.Tests.{◌<?◌, ◌≤?◌, ◌=?◌}
 use Rattle.tally.specs.declared.CallTold.{CallTold}
 use Rattle.tally.specs.Sums.{largest, sum_of, sums_with}

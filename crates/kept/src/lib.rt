@@ -1,5 +1,6 @@
 // What a program keeps from call to call besides the bytes that it lends.
 #![tactic(auto)]
+
 ghost use Rattle.kept.specs.Session.{StartsSession, Goes, PieceCame, CallMade};
 
 use tally::{CallTold, REFUSED, Sums, WAITING};
