@@ -1,5 +1,6 @@
 // Packets: the held bytes, the judgement at the oldest of them, and composing a packet. Nothing here knows of any command.
 #![tactic(auto)]
+
 ghost use Rattle.std.specs.Prelude.{◌≡◌, ◌+◌, ◌<◌, ◌≤◌, length};
 ghost use Rattle.packets.specs.Hold.{HoldsNothing};
 ghost use Rattle.packets.specs.Judge.{length_byte, checksum_right, Judges};
