@@ -1,5 +1,6 @@
 // The register of faults as bytes: its records, one behind the other.
 #![tactic(auto)]
+
 ghost use Rattle.std.specs.Prelude.{◌≡◌, ◌+◌, ◌*◌, ◌≤◌, length};
 ghost use Rattle.shapes.specs.Shape.{bytes, size};
 ghost use Rattle.registerbytes.specs.Register.{record_shape, record_parts, record_at, ReadsRegister, WritesRegister};
