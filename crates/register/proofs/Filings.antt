@@ -1,10 +1,9 @@
 -- What a filing comes to in each case: at a place inside the register and past its end, with a refusal and without.
 use mathlib.Core.Path.{◌≡◌, refl, sym, ap}
-use mathlib.Core.Bool.{Bool, true, false, not}
+use mathlib.Core.Bool.{Bool, true, false}
 use mathlib.Core.List.{List}
 use Prim.Native.Nat.{ℕ, ◌<◌, ◌≤◌}
 use borrow.Author.Tests.{lt-ltb, le-ltb}
-use lib.Dec.{T}
 use lib.ListN.{length, get_or, set}
 use Rattle.lists.specs.Tests.{when◌then◌else◌}
 use Rattle.lists.proofs.Laws.{when_true, when_false}
@@ -29,13 +28,11 @@ module _ (register : List Record) (k : Refusal) (unfiled : ℕ) where
   files_past i h = as_promised (when_false _ _ _ (le-ltb i (length register) h))
 
   -- where there is a refusal, it is filed at its slot; else nothing is
-  pub files_refused : (refused : Bool) → T refused → (m : ℕ) (register' : List Record) → FilesAt register (slot k register) k unfiled m register'
+  pub files_refused : (refused : Bool) → refused ≡ true → (m : ℕ) (register' : List Record) → FilesAt register (slot k register) k unfiled m register'
       → FilesIn register refused k unfiled m register'
   unfolding filed_if filed when◌then◌else◌
-  files_refused true h m register' e = e
-  files_refused false h m register' e = absurd h
+  files_refused refused h m register' e = rw h e
 
-  pub files_not : (refused : Bool) → T (not refused) → FilesIn register refused k unfiled unfiled register
+  pub files_not : (refused : Bool) → refused ≡ false → FilesIn register refused k unfiled unfiled register
   unfolding filed_if when◌then◌else◌
-  files_not true h = absurd h
-  files_not false h = (refl, refl)
+  files_not refused h = rw h (refl, refl)

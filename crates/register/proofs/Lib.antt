@@ -1,5 +1,3 @@
 pub mod Filings
-pub mod Parts
 pub mod Seeking
 pub mod Theorems
-pub mod Walks
