@@ -1,18 +1,19 @@
 -- Laws of text put together, of a number's digits and of forms.
-use mathlib.Core.Path.{◌≡◌, refl, sym, ◌∙◌, ap}
+use mathlib.Core.Path.{◌≡◌, refl, sym, ◌∙◌, ap, subst}
 use mathlib.Core.List.{List, [], ◌∷◌, ◌++◌, append_assoc}
-use mathlib.Core.Bool.{Bool, cond}
-use Prim.Native.Nat.{ℕ, zero, suc, ◌+◌, ◌*◌, ◌/◌, ◌%◌, ◌^◌, ◌<◌, ◌≤◌}
+use mathlib.Core.Bool.{Bool, true, false}
+use Prim.Native.Nat.{ℕ, zero, suc, ◌+◌, ◌-◌, ◌*◌, ◌/◌, ◌%◌, ◌^◌, ◌<◌, ◌≤◌}
 use native.Mathlib.Nat.{add-zero}
-use native.Mathlib.Numerals.{unary_clauses, add-one}
+use native.Mathlib.Numerals.{add-one}
 use native.Mathlib.Omega.{arith}
-use borrow.Author.Tests.{eq-eqb, ne_eqb, le-leb, lt-leb, lt-ltb, le-ltb}
+use borrow.Author.Tests.{eq-eqb, ne_eqb, le-leb, lt-leb, lt-ltb, le-ltb, ltb-false}
 use lib.ListN.{length, drop, set, get_or, drop_of_length-le}
 use lib.Seq.{set_split, drop-cons, drop-drop, get_or-drop}
-use Rattle.lists.specs.Tests.{when◌then◌else◌}
+use Rattle.std.proofs.Math.Nat.{pow-suc}
+use Rattle.std.proofs.lemmas.List.{drop-set}
+use Rattle.lists.specs.Tests.{when◌then◌else◌, ◌<?◌}
 use Rattle.lists.specs.Runs.{pasted}
 use Rattle.lists.proofs.Laws.{when_true, when_false, pasted_fits, pasted_refused}
-use Rattle.io.specs.Digits.{hex_digit_ascii, last_digits, IsDigitCount}
 use Rattle.wording.specs.Text.{Text, text, ◌then◌, decimal_in, decimal, form_behind}
 
 -- a run that fits stands behind the text
@@ -34,49 +35,62 @@ byte_fits out size b h =
     rw (set_split out size b h, pasted_fits out size (b ∷ []) (omega arith), add-one size, append_assoc) in
     ap (λ (o : List ℕ). text o (size + 1)) written ∙ fits out size (b ∷ []) (omega arith)
 
-pow_positive : (k : ℕ) → 1 ≤ 10 ^ k
-pow_positive zero = omega arith
-pow_positive (suc k) = omega (arith, pow_positive k)
+same_choice : (t : Bool) (a b c : List ℕ) → (t ≡ false → b ≡ c) → when t then a else b ≡ when t then a else c
+unfolding when◌then◌else◌
+same_choice true a b c f = refl
+same_choice false a b c f = f refl
 
--- a decimal digit's code
-glyph_below : (d : ℕ) → d < 10 → hex_digit_ascii d ≡ 48 + d
-glyph_below d h = ap (λ (t : Bool). cond t (48 + d) (87 + d)) (lt-ltb d 10 h)
-
--- the fewest digits that hold a number are its decimal digits
-fewest_digits : (k most n : ℕ) → k ≤ most → IsDigitCount 10 1 n k → last_digits 10 k n ≡ decimal_in most n
+-- enough places hold all digits
+enough_places : (most more n : ℕ) → n < most → n < more → decimal_in most n ≡ decimal_in more n
 unfolding decimal_in
-fewest_digits zero most n h f = absurd (omega arith)
-fewest_digits (suc k) zero n h f = absurd (omega arith)
-fewest_digits (suc zero) (suc most) n h f =
-    let small : n < 10 = omega arith in
-    let same : n % 10 ≡ n = omega arith in
-    rw same (rw (glyph_below n small) (sym (when_true _ _ _ (lt-ltb n 10 small))))
-fewest_digits (suc (suc k)) (suc most) n h f =
-    let positive : 1 ≤ 10 ^ k = pow_positive k in
-    let least : 10 ^ k * 10 ≤ n = simp unary_clauses at (f.2 (omega arith)) in
-    let large : 10 ≤ n = omega arith in
-    let rest = fewest_digits (suc k) most (n / 10) (omega arith) (omega arith, omega arith, λ q. simp unary_clauses (omega arith)) in
-    (λ i. rest i ++ (glyph_below (n % 10) (omega arith) i ∷ [])) ∙ sym (when_false _ _ _ (le-ltb n 10 large))
+enough_places zero more n h k = absurd (omega arith)
+enough_places (suc most) zero n h k = absurd (omega arith)
+enough_places (suc most) (suc more) n h k =
+    same_choice (n <? 10) ((48 + n) ∷ []) _ _
+    (λ e. ap (λ (run : List ℕ). run ++ ((48 + n % 10) ∷ [])) (enough_places most more (n / 10) (omega (arith, ltb-false _ _ e)) (omega (arith, ltb-false _ _ e))))
 
--- a number n has at most n + 1 digits
-few_digits : (k n : ℕ) → IsDigitCount 10 1 n k → k ≤ suc n
-few_digits zero n f = omega arith
-few_digits (suc zero) n f = omega arith
-few_digits (suc (suc k)) n f =
-    let least : 10 ^ k * 10 ≤ n = simp unary_clauses at (f.2 (omega arith)) in
-    omega (arith, below_power k)
-  where
-    below_power : (k : ℕ) → k < 10 ^ k
-    below_power zero = omega arith
-    below_power (suc k) = omega (arith, below_power k)
-
-pub all_digits : (k n : ℕ) → IsDigitCount 10 1 n k → last_digits 10 k n ≡ decimal n
-all_digits k n f = fewest_digits k (suc n) n (few_digits k n f) f
+-- the last digit of a number of two digits or more stands behind those of its tenth
+pub last_digit : (n : ℕ) → 10 ≤ n → decimal n ≡ decimal (n / 10) ++ ((48 + n % 10) ∷ [])
+unfolding decimal_in
+last_digit n h =
+    when_false _ _ _ (le-ltb n 10 h)
+    ∙ ap (λ (run : List ℕ). run ++ ((48 + n % 10) ∷ [])) (enough_places n (suc (n / 10)) (n / 10) (omega arith) (omega arith))
 
 -- of one that is below 10 there is one
 pub one_digit : (n : ℕ) → n < 10 → (48 + n) ∷ [] ≡ decimal n
 unfolding decimal_in
 one_digit n h = sym (when_true _ _ _ (lt-ltb n 10 h))
+
+-- One digit more is written at k, where there is room for the rest's digits up to there.
+module _ (k rest : ℕ) (large : 10 ≤ rest) (room : rest < 10 ^ (k + 1)) where
+  pub more_places : 1 ≤ k
+  more_places = above k room
+    where
+      above : (k : ℕ) → rest < 10 ^ (k + 1) → 1 ≤ k
+      above zero h = absurd (omega arith)
+      above (suc k) h = omega arith
+
+  places : k - 1 + 1 ≡ k
+  places = omega (arith, more_places)
+
+  pub tenth_fits : rest / 10 < 10 ^ (k - 1 + 1)
+  tenth_fits =
+      let power : 10 ^ (k + 1) ≡ 10 ^ k * 10 = rw (add-one k) (pow-suc 10 k) in
+      let h : rest < 10 ^ k * 10 = subst (λ (p : ℕ). rest < p) power room in
+      rw places (omega arith)
+
+  pub digit_turn : (n : ℕ) (digits : List ℕ) → k < length digits → decimal rest ++ drop (k + 1) digits ≡ decimal n
+      → decimal (rest / 10) ++ drop (k - 1 + 1) (set digits k (48 + rest % 10)) ≡ decimal n
+  digit_turn n digits h e =
+      rw (places, drop-set digits k (48 + rest % 10) h)
+      (sym (append_assoc (decimal (rest / 10)) ((48 + rest % 10) ∷ []) (drop (k + 1) digits))
+      ∙ ap (λ (run : List ℕ). run ++ drop (k + 1) digits) (sym (last_digit rest large)) ∙ e)
+
+-- the first digit stands before all others
+pub first_digit : (n rest k : ℕ) (digits : List ℕ) → rest < 10 → k < length digits → decimal rest ++ drop (k + 1) digits ≡ decimal n
+    → drop k (set digits k (48 + rest)) ≡ decimal n
+first_digit n rest k digits small h e =
+    drop-set digits k (48 + rest) h ∙ ap (λ (run : List ℕ). run ++ drop (k + 1) digits) (one_digit rest small) ∙ e
 
 -- A form, byte by byte.
 module _ (t : Text) (form numbers : List ℕ) (i k : ℕ) where

@@ -1,11 +1,12 @@
 // Text put together in a lent buffer.
 #![tactic(auto)]
-ghost use Rattle.std.specs.Prelude.{◌≡◌, [], ◌∷◌, get_or};
+
+ghost use Rattle.std.specs.Prelude.{◌≡◌, ◌≤◌, [], ◌∷◌, drop, get_or};
 ghost use Rattle.wording.specs.Text.{text, ◌then◌, decimal, FillsForm};
 
 // The run behind the first bytes of the buffer, and how many there are then; a run that does not fit is left out.
 fn word(out: &mut [u8], length: usize, run: &[u8]) -> usize
-    ensures { text out.new result ≡ (text out.old length then (λ x. x.now) run.entry) }
+    ensures { text out.new result ≡ (text out.old length then run.now) }
 {
     if out.len() < length || out.len() - length < run.len() {
         return length;
@@ -25,6 +26,22 @@ fn byte(out: &mut [u8], length: usize, b: u8) -> usize
     length + 1
 }
 
+// The decimal digits of a number at the end of the room, and where they begin.
+fn decimal(n: u64, room: &mut [u8; 20]) -> usize
+    ensures in_bounds { result ≤ 20 }
+    ensures digits { drop result room.new ≡ decimal n }
+{
+    let mut k = 19;
+    let mut rest = n;
+    while 10 <= rest {
+        room[k] = 48 + (rest % 10) as u8;
+        k -= 1;
+        rest /= 10;
+    }
+    room[k] = 48 + rest as u8;
+    k
+}
+
 // A number in decimal digits.
 fn number(out: &mut [u8], length: usize, n: u64) -> usize
     ensures { text out.new result ≡ (text out.old length then decimal n) }
@@ -33,8 +50,8 @@ fn number(out: &mut [u8], length: usize, n: u64) -> usize
         return byte(out, length, 48 + n as u8);
     }
     let mut digits = [0u8; 20];
-    let k = io::decimal(n, &mut digits);
-    word(out, length, &digits[..k])
+    let k = decimal(n, &mut digits);
+    word(out, length, &digits[k..])
 }
 
 // A number of the list, or 0 past its end.
