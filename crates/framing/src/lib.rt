@@ -2,6 +2,7 @@
 // up. The judged bytes stand where they came, in the piece; those of earlier calls stand in a window with the piece's first.
 // Nothing here knows of any command.
 #![tactic(auto)]
+
 ghost use Rattle.std.specs.Prelude.{◌≡◌, ◌+◌, ◌≤◌, length, take, drop};
 ghost use Rattle.packets.specs.Judge.{length_byte};
 ghost use Rattle.packets.specs.Packet.{content_most};
