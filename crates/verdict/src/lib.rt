@@ -1,6 +1,7 @@
 // Why a packet is refused: the verdict on a command and its data bytes, the first reason that applies with its place, or none.
 // It stands apart from carrying a command out, since whoever composes commands asks it too.
 #![tactic(auto)]
+
 ghost use Rattle.std.specs.Prelude.{◌≡◌, ◌<◌, ◌≤◌, length};
 ghost use Rattle.verdict.specs.Verdict.{in_range, first_out, is_reboot, whole_verdict, Rules};
 
