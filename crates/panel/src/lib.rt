@@ -1,5 +1,6 @@
 // The panel's state, by value: what it is made of and how it starts. The line's part and the body never read each other.
 #![tactic(auto)]
+
 ghost use Rattle.std.specs.Prelude.{◌≡◌};
 ghost use Rattle.panel.specs.State.{factory_settings, Starts};
 
