@@ -1,5 +1,6 @@
 // Composing a command's packet for a host. What the panel would refuse is refused here, by the panel's own verdict.
 #![tactic(auto)]
+
 ghost use Rattle.std.specs.Prelude.{◌≡◌};
 ghost use Rattle.verdict.specs.Verdict.{verdict_of};
 ghost use Rattle.composer.specs.Compose.{ComposesFor};
