@@ -1,6 +1,7 @@
 // Line recordings: the check of a whole recording, and its host packets from a place on, as places in it. Nothing here knows of any
 // command.
 #![tactic(auto)]
+
 ghost use Rattle.std.specs.Prelude.{◌≡◌, ◌+◌, ◌<◌, ◌≤◌, max, min, length, get_or};
 ghost use Rattle.recordings.specs.Recording.{entries_start, entry_size, marked, versioned, entries_of, entry_fault, first_faulty, fault_of, ChecksRecording, Passes};
 ghost use Rattle.recordings.specs.Next.{before, from_of, packet_from, no_packet, first_packet, FindsIn, Finds};
