@@ -7,10 +7,10 @@ use Rattle.panel.specs.State.{factory_settings, powered_on}
 use Rattle.panel.proofs.powered_on.Goals as goal
 
 -- no space draws a special glyph: antt computes the search
-no-symbols : searched factory_settings.shown.text ≡ replicate 80 0
+no_symbols : searched factory_settings.shown.text ≡ replicate 80 0
 unfolding factory_settings source_of mark_for when◌then◌else◌
-no-symbols = refl
+no_symbols = refl
 
 pub returns : goal.returns
 unfolding powered_on
-returns c = rw (c.factory-live.ensures, c.empty-hold.ensures, no-symbols)
+returns c = rw (c.factory-live.ensures, c.empty-hold.ensures, no_symbols)
