@@ -1,5 +1,6 @@
 // What a call says.
 #![tactic(auto)]
+
 ghost use Rattle.std.specs.Prelude.{◌≡◌};
 ghost use Rattle.verdict.specs.Verdict.{reason_number};
 ghost use Rattle.answers.specs.Answer.{check_number, Tells, Hands, TakesNothing};
