@@ -1,6 +1,7 @@
 // Reading a recording: the next host packet from a place on, with its data bytes as a part of the recording itself, by a plain reader
 // over the recording and a place, and by a small one that keeps the two together.
 #![tactic(auto)]
+
 ghost use Rattle.readers.specs.Handed.{PartOf, HandsBack, ReadsFrom};
 
 use recordings::find;
