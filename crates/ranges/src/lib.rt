@@ -1,5 +1,6 @@
 // Whether a state is in its ranges.
 #![tactic(auto)]
+
 ghost use Rattle.std.specs.Prelude.{◌≡◌};
 ghost use Rattle.lists.specs.Tests.{all_at_most};
 ghost use Rattle.sets.specs.Sets.{is_search};
