@@ -1,5 +1,6 @@
 // A recording as it is written: its start, the header of an entry, and how much room an entry has.
 #![tactic(auto)]
+
 ghost use Rattle.recorder.specs.Written.{StartsRecording, HeadsEntry, RoomBehind};
 
 use recordings::{ENTRIES, HEADER, LONGEST};
