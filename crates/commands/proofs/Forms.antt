@@ -7,7 +7,7 @@ use native.Mathlib.Omega.{arith}
 use lib.ListN.{length, take, drop, replicate, length-append, length-take}
 use lib.Seq.{take_at, take-append_seam, take-append-add}
 use Rattle.lists.specs.Runs.{front, pasted}
-use Rattle.lists.proofs.Laws.{length-pasted, pasted_front, front_run, take-most, all_behind, drop-most}
+use Rattle.lists.proofs.Laws.{pasted_front, front_run, take-most, all_behind, drop-most}
 use Rattle.composer.specs.declared.Composing.{Composing}
 use Rattle.composer.specs.Compose.{ComposesFor}
 use Rattle.commands.specs.declared.Command.{Command}
@@ -77,9 +77,6 @@ module _ (values bytes zeros content content' : List ℕ) (n more : ℕ) (size :
   laid_both =
       let k = length-take more bytes in
       c' ∙ ap (λ (l : List ℕ). pasted l n (take more bytes)) (c ∙ pasted_front values zeros (omega arith)) ∙ front_run values zeros (take more bytes) n (sym size) (omega arith)
-
-  pub laid_room : length content' ≡ 23
-  laid_room = rw (c', length-pasted, c, length-pasted) room
 
   pub laid_taken : take (n + more) content' ≡ take 23 (values ++ bytes)
   laid_taken =

@@ -1,5 +1,6 @@
 // The commands as values, for a host: each with its plain values, composed as a packet.
 #![tactic(auto)]
+
 ghost use Rattle.std.specs.Prelude.{◌≡◌, true, false, ◌++◌, ◌≤◌, take};
 ghost use Rattle.composer.specs.Compose.{ComposesFor};
 ghost use Rattle.commands.specs.Commands.{values_most, form_of, head_of, ComposesCommand, ReadsBytes};
