@@ -1,5 +1,6 @@
 // What a call says, written as 16 bytes.
 #![tactic(auto)]
+
 ghost use Rattle.saidbytes.specs.Says.{Says, SaysRefused};
 
 use answers::{Answer, Check};
