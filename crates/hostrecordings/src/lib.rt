@@ -1,5 +1,6 @@
 // Reading recordings for a C caller: the call of include/naupelys_host.h over a lent recording.
 #![tactic(auto)]
+
 ghost use Rattle.hostrecordings.specs.Next.{TellsNext};
 
 use recordings::PACKET;
