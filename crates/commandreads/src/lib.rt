@@ -1,5 +1,6 @@
 // A packet's code and data read back as a command, where the panel allows them.
 #![tactic(auto)]
+
 ghost use Rattle.std.specs.Prelude.{◌≡◌, true, ◌≤◌};
 ghost use Rattle.table.specs.Table.{table, look_up};
 ghost use Rattle.commandreads.specs.Backwards.{candidates, first_with, ReadsCommand};
