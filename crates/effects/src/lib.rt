@@ -1,5 +1,6 @@
 // What a command does to the body. Past the end of its data a command reads zeros.
 #![tactic(auto)]
+
 ghost use Rattle.std.specs.Prelude.{◌≡◌, set};
 ghost use Rattle.effects.specs.Effects.{with_flash, stored, polled, rebooted, cleared, glyph_set, text_written, pin_set, pin_read, live_after, effect, Affects};
 
