@@ -1,5 +1,6 @@
 // What a call says, read from its 16 bytes.
 #![tactic(auto)]
+
 ghost use Rattle.std.specs.Prelude.{◌≡◌};
 ghost use Rattle.shapes.specs.Words.{half_of};
 ghost use Rattle.saidreads.specs.Told.{ReadsSaid};
