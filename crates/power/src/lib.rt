@@ -1,5 +1,6 @@
 // Power-on.
 #![tactic(auto)]
+
 ghost use Rattle.std.specs.Prelude.{◌≡◌};
 ghost use Rattle.answers.specs.Checks.{checked_by};
 ghost use Rattle.power.specs.Power.{power_tests, PowersOn};
