@@ -1,5 +1,5 @@
 -- The panel's state as bytes: every run of bytes of the state's size is a state.
-use Rattle.std.specs.Prelude.{ℕ, ◌≡◌, Bool, true, false, List, length}
+use Rattle.std.specs.Prelude.{ℕ, ◌≡◌, Bool, false, List, length}
 use Rattle.lists.specs.Tests.{when◌then◌else◌, ◌=?◌}
 use Rattle.lists.specs.Runs.{pasted}
 use Rattle.shapes.specs.Shape.{size, bytes, value, Fits}

@@ -1,0 +1,5 @@
+use Rattle.shapes.proofs.Laws.{stands}
+use Rattle.statebytes.proofs.line.line_of.Goals as goal
+
+pub returns : goal.returns
+returns c = search stands depth 20
