@@ -1,5 +1,6 @@
 // The line's part of a call: its checks, the scan, what a packet is answered, and the error reply. It knows no body.
 #![tactic(auto)]
+
 ghost use Rattle.std.specs.Prelude.{◌≡◌};
 ghost use Rattle.listen.specs.Reply.{AnswersTo, RepliesRefused};
 ghost use Rattle.listen.specs.Listen.{answer_in, ChecksLine, HearsPiece};
