@@ -4,7 +4,6 @@ use Rattle.glyphs.proofs.Flat.{eight_whole, rows_eight}
 use Rattle.picture.specs.Draw.{low_six}
 use Rattle.picture.proofs.Codes.{drawn_special, drawn_font}
 use native.Mathlib.Omega.{arith}
-use borrow.Author.Rules.{rules}
 use Rattle.picture.proofs.draw.draw.Goals as goal
 
 pub returns-then-is_special : goal.returns-then-is_special

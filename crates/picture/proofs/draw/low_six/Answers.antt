@@ -1,5 +1,4 @@
-use Prim.Native.Nat.{◌≤◌, ◌-◌}
-use mathlib.Core.Path.{◌≡◌, refl}
+use mathlib.Core.Path.{refl}
 use Rattle.picture.proofs.Codes.{low_first, low_turn, low_all}
 use native.Mathlib.Omega.{arith}
 use borrow.Author.Rules.{rules}

@@ -1,8 +1,6 @@
 use Prim.Native.Nat.{◌≤◌, ◌-◌}
-use mathlib.Core.Path.{◌≡◌, refl}
-use Rattle.picture.proofs.Codes.{low_first, low_turn, low_all}
-use native.Mathlib.Omega.{arith}
-use borrow.Author.Rules.{rules}
+use mathlib.Core.Path.{◌≡◌}
+use Rattle.picture.proofs.Codes.{low_first}
 use Rattle.picture.proofs.draw.low_six.Given as goal
 
 abbrev pub invariant-loop-row : goal.invariant-loop-row

@@ -1,6 +1,4 @@
-use Prim.Native.Nat.{◌≤◌, ◌-◌}
 use mathlib.Core.Path.{◌≡◌, refl}
-use Rattle.picture.specs.Repaint.{alike}
 use Rattle.picture.proofs.Changes.{alike_turn}
 use native.Mathlib.Omega.{arith}
 use borrow.Author.Rules.{rules}

@@ -1,9 +1,6 @@
 use Prim.Native.Nat.{◌≤◌, ◌-◌}
-use mathlib.Core.Path.{◌≡◌, refl}
+use mathlib.Core.Path.{◌≡◌}
 use Rattle.picture.specs.Repaint.{alike}
-use Rattle.picture.proofs.Changes.{alike_turn}
-use native.Mathlib.Omega.{arith}
-use borrow.Author.Rules.{rules}
 use Rattle.picture.proofs.repaint.alike_first.Given as goal
 
 abbrev pub invariant-loop-i : goal.invariant-loop-i

@@ -3,7 +3,6 @@ use mathlib.Core.Path.{◌∙◌, ap}
 use mathlib.Core.List.{List}
 use Rattle.picture.specs.Draw.{screen, screen_of, drawn}
 use Rattle.picture.proofs.Sizes.{draws_sized, draws_left}
-use borrow.Author.Rules.{rules}
 use Rattle.picture.proofs.repaint.draw_all.Goals as goal
 
 pub returns-then-picture-eq-PICTURE : goal.returns-then-picture-eq-PICTURE

@@ -1,8 +1,5 @@
-use Prim.Native.Nat.{◌≤◌, ◌-◌}
 use mathlib.Core.Path.{◌≡◌, refl, ◌∙◌}
-use mathlib.Core.Bool.{false}
-use lib.ListN.{length}
-use Rattle.picture.specs.Draw.{screen, paint, cell_drawn}
+use Rattle.picture.specs.Draw.{screen, paint}
 use Rattle.picture.proofs.Paints.{drawn_over}
 use Rattle.picture.proofs.Turns.{drawn_turn}
 use native.Mathlib.Omega.{arith}

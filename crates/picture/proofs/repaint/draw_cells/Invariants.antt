@@ -1,12 +1,8 @@
 use Prim.Native.Nat.{◌≤◌, ◌-◌}
-use mathlib.Core.Path.{◌≡◌, refl, ◌∙◌}
+use mathlib.Core.Path.{◌≡◌}
 use mathlib.Core.Bool.{false}
 use lib.ListN.{length}
 use Rattle.picture.specs.Draw.{screen, paint, cell_drawn}
-use Rattle.picture.proofs.Paints.{drawn_over}
-use Rattle.picture.proofs.Turns.{drawn_turn}
-use native.Mathlib.Omega.{arith}
-use borrow.Author.Rules.{rules}
 use Rattle.picture.proofs.repaint.draw_cells.Given as goal
 
 abbrev pub invariant-loop-n : goal.invariant-loop-n

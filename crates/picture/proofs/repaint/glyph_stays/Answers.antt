@@ -1,12 +1,9 @@
 use Prim.Native.Nat.{◌-◌}
-use mathlib.Core.Path.{◌≡◌, sym, ◌∙◌}
-use mathlib.Core.List.{[]}
+use mathlib.Core.Path.{sym, ◌∙◌}
 use native.Mathlib.Omega.{arith}
-use lib.ListN.{length, get_or}
 use Rattle.glyphs.proofs.Flat.{rows_eight}
 use Rattle.picture.specs.Repaint.{glyph_stays}
 use Rattle.picture.proofs.Codes.{stays_named}
-use borrow.Author.Rules.{rules}
 use Rattle.picture.proofs.repaint.glyph_stays.Goals as goal
 
 pub returns-then-mark-eq0 : goal.returns-then-mark-eq0

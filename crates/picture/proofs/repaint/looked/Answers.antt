@@ -1,15 +1,14 @@
 use Prim.Native.Nat.{ℕ}
 use mathlib.Core.Path.{◌≡◌, sym, ◌∙◌, ap}
-use mathlib.Core.Bool.{true, true≢false}
+use mathlib.Core.Bool.{true≢false}
 use mathlib.Core.List.{List}
 use native.Mathlib.Omega.{arith}
 use borrow.Author.Tests.{not-false}
 use lib.ListN.{length, get_or, length-map}
-use Rattle.sets.specs.Sets.{mark_of, searched}
+use Rattle.sets.specs.Sets.{mark_of}
 use Rattle.sets.proofs.Laws.{searched_at}
 use Rattle.picture.specs.Repaint.{glyph_stays, code_stays}
 use Rattle.picture.proofs.Codes.{stays_alike, mark_alike, searched_marks}
-use borrow.Author.Rules.{rules}
 use Rattle.picture.proofs.repaint.looked.Goals as goal
 
 pub looked_by_sets-requires : goal.looked_by_sets-requires

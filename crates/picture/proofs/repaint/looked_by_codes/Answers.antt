@@ -1,10 +1,8 @@
-use Prim.Native.Nat.{◌-◌}
 use mathlib.Core.Path.{refl}
 use mathlib.Core.Bool.{false}
 use lib.ListN.{replicate}
 use Rattle.picture.specs.Repaint.{looks_by_codes}
-use Rattle.picture.proofs.Codes.{Looking, look_first, look_turn, look_all}
-use borrow.Author.Rules.{rules}
+use Rattle.picture.proofs.Codes.{look_first, look_turn, look_all}
 use Rattle.picture.proofs.repaint.looked_by_codes.Goals as goal
 
 pub loop-cell-init : goal.loop-cell-init

@@ -1,11 +1,9 @@
 use mathlib.Core.Path.{◌≡◌, ◌∙◌, sym, ap}
 use native.Mathlib.Omega.{arith}
-use Prim.Native.Nat.{ℕ}
 use lib.ListN.{length}
 use Rattle.glyphs.specs.Glyphs.{nested_of}
 use Rattle.picture.proofs.Changes.{alike_whole}
 use Rattle.picture.proofs.Sizes.{glyphs_meant}
-use borrow.Author.Rules.{rules, length_unmapped}
 use Rattle.picture.proofs.repaint.repaint.Goals as goal
 
 pub alike_first-same-requires : goal.alike_first-same-requires

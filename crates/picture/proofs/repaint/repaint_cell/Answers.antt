@@ -1,4 +1,3 @@
-use borrow.Author.Rules.{rules}
 use mathlib.Core.Path.{refl, sym}
 use lib.ListN.{get_or}
 use Rattle.lists.specs.Tests.{when◌then◌else◌}

@@ -1,4 +1,3 @@
-use Prim.Native.Nat.{◌-◌}
 use mathlib.Core.Path.{◌∙◌, sym}
 use mathlib.Core.Bool.{◌&&◌}
 use lib.ListN.{length}
@@ -7,8 +6,7 @@ use Rattle.sets.proofs.Laws.{is_searched}
 use Rattle.picture.specs.Draw.{screen}
 use Rattle.picture.proofs.Changes.{both}
 use Rattle.picture.proofs.Sizes.{both_sized, repaint_left, sized_repaints}
-use Rattle.picture.proofs.Turns.{Reached, reached_first, reached_left, reached_listed, reached_all, screen_again}
-use borrow.Author.Rules.{rules}
+use Rattle.picture.proofs.Turns.{reached_first, reached_left, reached_listed, reached_all, screen_again}
 use Rattle.picture.proofs.repaint.repaint_cells.Goals as goal
 
 pub returns-then-picture-list : goal.returns-then-picture-list

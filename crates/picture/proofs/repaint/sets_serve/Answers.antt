@@ -1,4 +1,3 @@
-use borrow.Author.Rules.{rules}
 use Rattle.picture.proofs.repaint.sets_serve.Goals as goal
 
 pub returns-then-kept : goal.returns-then-kept

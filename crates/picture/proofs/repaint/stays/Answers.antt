@@ -1,7 +1,6 @@
 use mathlib.Core.Path.{ap}
 use mathlib.Core.Bool.{Bool, not, ◌&&◌, ◌||◌}
 use Rattle.lists.specs.Tests.{◌=?◌}
-use borrow.Author.Rules.{rules}
 use Rattle.picture.proofs.repaint.stays.Goals as goal
 
 pub returns : goal.returns
