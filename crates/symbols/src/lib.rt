@@ -1,5 +1,6 @@
 // Which cells a symbol is on: menu designers ask before they redefine it (document 02, order 4).
 #![tactic(auto)]
+
 ghost use Rattle.std.specs.Prelude.{◌≡◌, ◌≤◌, length};
 ghost use Rattle.symbols.specs.Symbols.{ListsCells, TellsCells};
 
