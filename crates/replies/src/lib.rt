@@ -1,5 +1,6 @@
 // What a command replies.
 #![tactic(auto)]
+
 ghost use Rattle.std.specs.Prelude.{◌≡◌, ◌∷◌, ◌+◌, ◌-◌, ◌≤◌, length, get_or};
 ghost use Rattle.packets.specs.Packet.{packet_of};
 ghost use Rattle.glyphs.specs.Glyphs.{eight_from};
