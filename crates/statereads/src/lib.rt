@@ -1,5 +1,6 @@
 // What the state's bytes say of the body, and whether they are in their ranges.
 #![tactic(auto)]
+
 ghost use Rattle.std.specs.Prelude.{◌≡◌, ◌+◌, ◌≤◌, length};
 ghost use Rattle.shapes.specs.Shape.{size, value, Stands};
 ghost use Rattle.ranges.specs.Ranges.{settings_in_range, sets_in_range, in_ranges};
