@@ -1,5 +1,6 @@
 // The panel written as the state's bytes.
 #![tactic(auto)]
+
 ghost use Rattle.std.specs.Prelude.{◌≡◌, ◌+◌, ◌≤◌, length};
 ghost use Rattle.shapes.specs.Shape.{size, Lays};
 ghost use Rattle.statebytes.specs.Layout.{shown_shape, shown_parts, cursor_shape, cursor_parts, cursor_place, dials_shape, dials_parts, dials_place, masks_shape, masks_parts, masks_place, wires_shape, wires_parts, wires_place, settings_shape, settings_parts, bits_shape, keys_parts, keys_place, pins_parts, pins_place, body_shape, body_parts, body_place};

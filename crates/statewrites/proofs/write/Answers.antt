@@ -11,9 +11,8 @@ use Rattle.panel.specs.declared.Panel.{Panel}
 use Rattle.statebytes.specs.Layout.{line_shape, line_parts, body_shape, body_parts, body_place, panel_shape, panel_parts}
 use Rattle.statebytes.specs.State.{state_size, bytes_of, state_with, line_with, WritesLine}
 use Rattle.statebytes.proofs.Theorems.{line_sized}
-use borrow.Author.Rules.{rules, length_unmapped}
-use Rattle.statewrites.proofs.write.Statement.{statement}
-use Rattle.statewrites.proofs.write.Tie as tie
+use borrow.Author.Rules.{rules}
+use Rattle.statewrites.proofs.write.Goals as goal
 
 -- a body laid behind a line that was written over a state is the panel written
 behind : (p : Panel) {b₁ b₂ : List ℕ} (b : List ℕ) → length b ≡ state_size → Sized line_shape (line_parts p.line) → WritesLine b p.line b₁
@@ -23,18 +22,15 @@ behind p b e sized w lays =
     let line = w ∙ when_true _ _ _ (eq-eqb _ state_size e) ∙ sym (laid_whole line_shape b 0 (line_parts p.line) sized (omega arith)) in
     lays.is ∙ ap (λ (o : List ℕ). laid body_shape o body_place (body_parts p.body)) line ∙ laid_all panel_shape b (panel_parts p) (sized, lays.sized) e
 
-returns : tie.Need-returns
+pub returns-then-state-ne-SIZE : goal.returns-then-state-ne-SIZE
 unfolding state_with
-returns c = sym (when_false _ _ _ (ne_eqb _ state_size c.if1.true))
+returns-then-state-ne-SIZE c = sym (when_false _ _ _ (ne_eqb _ state_size c.if-state-ne-SIZE.true))
 
-returns-2 : tie.Need-returns-2
+pub returns : goal.returns
 unfolding state_with
-returns-2 c =
-    let a = c.before.before.before.before.before.before.before.before.before.before.args in
-    let left = c.before.before.before.before.before.before.before.before.if1.false in
-    let sized = line_sized a.l (length_unmapped ℕ a.l.hold.bytes 25 c.before.before.before.before.before.before.before.before.before.before.well-formed.1.0.1.1.0.1.1.0.1.0.1) in
-    behind (record { line = a.l; body = a.b }) a.state.now left sized c.before.before.before.before.before.before.write-line.ensures c.before.before.lay-body.ensures
+returns c =
+    let a = c.args in
+    let left = c.if-state-ne-SIZE.false in
+    let sized = line_sized a.l c.well_formed.1.0.1.1.0.1.1.0.1.0.1 in
+    behind (record { line = a.l; body = a.b }) a.state.now left sized c.write_line.ensures c.lay_body.ensures
     ∙ sym (when_true _ _ _ (eq-eqb _ state_size left))
-
-pub write_spec : {M : Type 1} → statement M
-write_spec = tie.close (tie.spec returns (λ c κs. search rules) (λ c κs. search rules) (λ c. search rules) returns-2)
