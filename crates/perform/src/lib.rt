@@ -1,5 +1,6 @@
 // The body's part of a call: a command carried out, its reply and the repaint. It knows no line.
 #![tactic(auto)]
+
 ghost use Rattle.perform.specs.Perform.{Replies, Performs};
 
 use packets::{CONTENT, Packet};
