@@ -1,5 +1,6 @@
 // Composing for a C caller: the general call of include/naupelys_host.h over lent bytes, and what its named calls hand on to.
 #![tactic(auto)]
+
 ghost use Rattle.host.specs.Calls.{TellsComposing, ComposeBytes, CommandBytes};
 
 use answers::Answer;
