@@ -1,5 +1,5 @@
 -- The lines of text: each a form whose marks, "%", stand for numbers.
-use Rattle.std.specs.Prelude.{ℕ, ◌≡◌, List, [], ◌∷◌, ◌++◌}
+use Rattle.std.specs.Prelude.{ℕ, List, [], ◌∷◌, ◌++◌}
 use Rattle.lists.specs.Tests.{when◌then◌else◌, ◌=?◌}
 use Rattle.wording.specs.Text.{mark, space_mark, newline, FillsForm}
 use Rattle.tally.specs.declared.CallTold.{CallTold}

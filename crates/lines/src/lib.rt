@@ -1,5 +1,6 @@
 // The lines that the line program writes, each put together in a lent buffer.
 #![tactic(auto)]
+
 ghost use Rattle.wording.specs.Text.{FillsForm};
 ghost use Rattle.lines.specs.Lines.{event_form, Events, Ends};
 

@@ -1,5 +1,5 @@
 -- The lines that the program `recording` writes: each a form whose marks, "%", stand for numbers.
-use Rattle.std.specs.Prelude.{ℕ, ◌+◌, ◌/◌, ◌%◌, ◌≡◌, List, [], ◌∷◌, ◌++◌, length, take}
+use Rattle.std.specs.Prelude.{ℕ, ◌+◌, ◌/◌, ◌%◌, List, [], ◌∷◌, ◌++◌, length, take}
 use Rattle.lists.specs.Tests.{when◌then◌else◌, ◌<?◌, ◌=?◌}
 use Rattle.wording.specs.Text.{mark, newline, FillsForm}
 use Rattle.packets.specs.Packet.{content_most}

@@ -1,5 +1,6 @@
 // The lines that the program `recording` writes, each put together in a lent buffer.
 #![tactic(auto)]
+
 ghost use Rattle.std.specs.Prelude.{◌≡◌, [], ◌∷◌, ◌++◌, ◌+◌, ◌<◌, ◌≤◌, length, replicate};
 ghost use Rattle.lists.specs.Runs.{front};
 ghost use Rattle.packets.specs.Packet.{content_most};
