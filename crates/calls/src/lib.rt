@@ -1,5 +1,6 @@
 // A piece of the line for the whole panel, by value, with the filing of what is refused.
 #![tactic(auto)]
+
 ghost use Rattle.std.specs.Prelude.{◌≡◌, length};
 ghost use Rattle.answers.specs.Answer.{with_unfiled};
 ghost use Rattle.linecall.specs.Line.{said_with, lent, LineCall};
