@@ -1,5 +1,6 @@
 // A glyph, the cursor's place and a text, composed for a C caller: each hands on to the one composer.
 #![tactic(auto)]
+
 ghost use Rattle.std.specs.Prelude.{[]};
 ghost use Rattle.host.specs.Calls.{CommandBytes};
 
