@@ -1,5 +1,6 @@
 // The cursor's style, the contrast and the backlight, composed for a C caller: each hands on to the one composer.
 #![tactic(auto)]
+
 ghost use Rattle.std.specs.Prelude.{[]};
 ghost use Rattle.host.specs.Calls.{CommandBytes};
 
