@@ -1,12 +1,16 @@
 // The recording program: a line recording on standard input, a line of text a host packet on standard output. The whole recording is
 // checked first, and its entries are then walked once.
 #![tactic(auto)]
-use libc::{STDERR_FILENO, STDIN_FILENO, STDOUT_FILENO};
+
 use recordings::{AHEAD, ENTRIES, Fault, Found, PACKET};
+use std::io::Read;
 use wording::filled;
 
 // Room for a line.
 const LINE: usize = 200;
+
+// Room for the longest recording and one byte more, which is one too many.
+const ROOM: usize = 65536;
 
 // How many bytes were read, and whether a read failed.
 #[derive(Clone, Copy)]
@@ -23,19 +27,25 @@ struct Listed {
     lost: bool,
 }
 
-// Fills the room from standard input, as far as that goes. A failed read is not taken for the end of the input.
-fn input(room: &mut [u8]) -> Got {
+// Fills the room from a reader, as far as that goes. A failed read is not taken for the end of the input.
+fn input<R: Read>(reader: &mut R, room: &mut [u8]) -> Got {
     let mut n = 0;
     while n < room.len() {
-        let got = libc::read(STDIN_FILENO, &mut room[n..]);
-        let more = io::count(got, &room[n..]);
-        if more == 0 {
-            return Got {
-                count: n,
-                failed: got < 0,
-            };
+        match reader.read(&mut room[n..]) {
+            Ok(0) => {
+                return Got {
+                    count: n,
+                    failed: false,
+                };
+            }
+            Ok(more) => n += more,
+            Err(_) => {
+                return Got {
+                    count: n,
+                    failed: true,
+                };
+            }
         }
-        n += more;
     }
     Got {
         count: n,
@@ -43,20 +53,22 @@ fn input(room: &mut [u8]) -> Got {
     }
 }
 
-// Writes the front of a buffer to a file; whether all of it was written.
-fn put(file: i32, out: &[u8], length: usize) -> bool {
+// Writes the front of a buffer to a stream; whether all of it was written.
+fn put<P: Print>(stream: &P, out: &[u8], length: usize) -> bool {
     let n = lists::at_most(length, out.len());
-    io::write_all(file, &out[..n])
+    stream.write_all(&out[..n]).is_ok()
+}
+
+// A line on standard error. Where that cannot be written either, nobody can be told.
+fn say<R: Eprint>(rt: &R, words: &str) {
+    let _ = rt.eprintln(words);
 }
 
 // A line of standard output. A failed write is told on standard error.
-fn line(out: &[u8], length: usize) -> bool {
-    let done = put(STDOUT_FILENO, out, length);
+fn line<R: Print + Eprint>(rt: &R, out: &[u8], length: usize) -> bool {
+    let done = put(rt, out, length);
     if !done {
-        io::write_all(
-            STDERR_FILENO,
-            b"recording: standard output cannot be written\n",
-        );
+        say(rt, "recording: standard output cannot be written");
     }
     done
 }
@@ -75,7 +87,7 @@ fn offset(start: usize) -> u64 {
 }
 
 // The line of a packet that was found.
-fn told(recording: &[u8], f: Found, s: Listed) -> Listed {
+fn told<R: Print + Eprint>(rt: &R, recording: &[u8], f: Found, s: Listed) -> Listed {
     let packets = one_more(s.packets);
     let content = readers::part(recording, f.start, f.length);
     let mut out = [0u8; LINE];
@@ -87,12 +99,12 @@ fn told(recording: &[u8], f: Found, s: Listed) -> Listed {
         f.kind,
         content,
     );
-    let lost = !line(&out, n);
+    let lost = !line(rt, &out, n);
     Listed { packets, lost, ..s }
 }
 
 // The lines of the packets of the entry that stands at a place.
-fn entry(recording: &[u8], at: usize, s: Listed) -> Listed {
+fn entry<R: Print + Eprint>(rt: &R, recording: &[u8], at: usize, s: Listed) -> Listed {
     let mut t = Listed {
         entries: one_more(s.entries),
         ..s
@@ -103,7 +115,7 @@ fn entry(recording: &[u8], at: usize, s: Listed) -> Listed {
         if f.number != PACKET {
             return t;
         }
-        t = told(recording, f, t);
+        t = told(rt, recording, f, t);
         if t.lost {
             return t;
         }
@@ -112,7 +124,7 @@ fn entry(recording: &[u8], at: usize, s: Listed) -> Listed {
 }
 
 // The lines of all entries, each walked once.
-fn entries(recording: &[u8]) -> Listed {
+fn entries<R: Print + Eprint>(rt: &R, recording: &[u8]) -> Listed {
     let mut s = Listed {
         packets: 0,
         entries: 0,
@@ -120,7 +132,7 @@ fn entries(recording: &[u8]) -> Listed {
     };
     let mut at = ENTRIES;
     while at < recording.len() {
-        s = entry(recording, at, s);
+        s = entry(rt, recording, at, s);
         if s.lost {
             return s;
         }
@@ -130,18 +142,18 @@ fn entries(recording: &[u8]) -> Listed {
 }
 
 // What a recording that is fine holds.
-fn list(recording: &[u8]) {
+fn list<R: Print + Eprint>(rt: &R, recording: &[u8]) {
     let heading = b"packet entry offset type length data\n";
-    if !line(heading, heading.len()) {
+    if !line(rt, heading, heading.len()) {
         return;
     }
-    let s = entries(recording);
+    let s = entries(rt, recording);
     if s.lost {
         return;
     }
     let mut out = [0u8; LINE];
     let n = listing::totals(&mut out, s.packets, s.entries, recording.len() as u64);
-    line(&out, n);
+    line(rt, &out, n);
 }
 
 // What is wrong, in words, and at which byte.
@@ -161,32 +173,32 @@ fn words(out: &mut [u8], number: u8, place: u64) -> usize {
 }
 
 // A recording that is refused has one line, and its words on standard error.
-fn refuse(fault: Fault) {
+fn refuse<R: Print + Eprint, E: Print>(rt: &R, errors: &E, fault: Fault) {
     let mut out = [0u8; LINE];
     let n = listing::refusal(&mut out, fault.number);
-    line(&out, n);
+    line(rt, &out, n);
     let k = words(&mut out, fault.number, fault.place as u64);
-    put(STDERR_FILENO, &out, k);
+    put(errors, &out, k);
 }
 
 // The lines of a recording, or of its refusal.
-fn tell(recording: &[u8]) {
+fn tell<R: Print + Eprint, E: Print>(rt: &R, errors: &E, recording: &[u8]) {
     let fault = recordings::check(recording);
     if fault.number == 0 {
-        list(recording);
+        list(rt, recording);
     } else {
-        refuse(fault);
+        refuse(rt, errors, fault);
     }
 }
 
-fn main() {
-    // Room for the longest recording and one byte more, which is one too many.
-    let mut room = io::large_buffer();
-    let read = input(&mut room);
+fn main(rt: HostRuntime) {
+    let mut room = [0u8; ROOM];
+    let mut reader = rt.stdin();
+    let read = input(&mut reader, &mut room);
     if read.failed {
-        io::write_all(STDERR_FILENO, b"recording: standard input cannot be read\n");
+        say(&rt, "recording: standard input cannot be read");
         return;
     }
     let n = lists::at_most(read.count, room.len());
-    tell(&room[..n]);
+    tell(&rt, &rt.stderr(), &room[..n]);
 }
