@@ -1,5 +1,6 @@
 // A ping, the flash, a reboot and the memory, composed for a C caller: each hands on to the one composer.
 #![tactic(auto)]
+
 ghost use Rattle.std.specs.Prelude.{[]};
 ghost use Rattle.host.specs.Calls.{CommandBytes};
 
