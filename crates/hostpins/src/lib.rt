@@ -1,5 +1,6 @@
 // The masks of the keys and the pins, composed for a C caller: each hands on to the one composer.
 #![tactic(auto)]
+
 ghost use Rattle.std.specs.Prelude.{[]};
 ghost use Rattle.host.specs.Calls.{CommandBytes};
 
