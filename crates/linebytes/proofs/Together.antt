@@ -100,8 +100,8 @@ module _ (s : List ℕ) (l : Lent) (f : List ℕ) (passes : checked_by (tests_on
   abbrev p : Panel
   p = panel_of s
 
-  is_state : is_state s ≡ true
-  is_state = go (is_state s) refl
+  state_passed : is_state s ≡ true
+  state_passed = go (is_state s) refl
     where
       go : (t : Bool) → is_state s ≡ t → is_state s ≡ true
       go true e = e
@@ -110,7 +110,7 @@ module _ (s : List ℕ) (l : Lent) (f : List ℕ) (passes : checked_by (tests_on
   -- the line's part is heard as the panel's
   heard_as : (h ≡ line_heard p l) × (reply₁ ≡ reply_once_heard p l)
   unfolding line_read_of
-  heard_as = passed_heard p l (rw (state_checked s l is_state) at passes) (rw (when_true _ _ _ is_state) at hears)
+  heard_as = passed_heard p l (rw (state_checked s l state_passed) at passes) (rw (when_true _ _ _ state_passed) at hears)
 
   pub turned_down_line : is_done h.answer ≡ false → Bytes s → Sized line_shape (line_parts h.line) → {m : ℕ} {s' f' said' : List ℕ} → TurnsDown s h f m s' f' said'
       → LineBytes s l f m s' l.picture l.list reply₁ f' said'
@@ -119,14 +119,14 @@ module _ (s : List ℕ) (l : Lent) (f : List ℕ) (passes : checked_by (tests_on
       let q = heard_as in
       let all = says_left p l q.0 q.1 d in
       let below : (numbers_of h.answer).number < 10 = rw hears.0 (heard_number _ _) in
-      let written = line_written s (eqb-true _ _ is_state) small (line_unfiled h.line (files_by h.answer h.line.unfiled f).unfiled) sized in
-      said_of_bytes s l f is_state _ all.0 w.number (w.state ∙ written ∙ sym (when_true _ _ _ (lt-ltb _ _ below))) all.1 all.2 all.3 w.faults w.said
+      let written = line_written s (eqb-true _ _ state_passed) small (line_unfiled h.line (files_by h.answer h.line.unfiled f).unfiled) sized in
+      said_of_bytes s l f state_passed _ all.0 w.number (w.state ∙ written ∙ sym (when_true _ _ _ (lt-ltb _ _ below))) all.1 all.2 all.3 w.faults w.said
 
   pub carried_out_line : is_done h.answer ≡ true → {m : ℕ} {s' p' l' r' said' : List ℕ} → CarriesOut s h l.picture l.font l.list reply₁ m s' p' l' r' said'
       → LineBytes s l f m s' p' l' r' f said'
   unfolding state_after body_read_of state_with
   carried_out_line d {p' = p'} {l' = l'} {r' = r'} w =
-      let e = is_state in
+      let e = state_passed in
       let q = heard_as in
       let c = carried p.body h.packet in
       let body : body_read_of s ≡ p.body = when_true _ _ _ e in

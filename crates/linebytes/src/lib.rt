@@ -1,5 +1,6 @@
 // The line call over lent bytes: the body is read only where a command is performed, the register only where a packet is refused.
 #![tactic(auto)]
+
 ghost use Rattle.std.specs.Prelude.{◌≡◌, length};
 ghost use Rattle.linecall.specs.Line.{lent};
 ghost use Rattle.linebytes.specs.Line.{records_in, FilesBytes, TurnsDown, CarriesOut, LineBytes};
