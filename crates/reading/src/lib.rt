@@ -1,6 +1,7 @@
 // What a panel writes, read back into values: exactly one reply, error reply or report that a panel in its ranges can write, or
 // nothing.
 #![tactic(auto)]
+
 ghost use Rattle.std.specs.Prelude.{◌≡◌, ◌≤◌, length};
 ghost use Rattle.lists.specs.Tests.{all_at_most};
 ghost use Rattle.packets.specs.Packet.{content_most};

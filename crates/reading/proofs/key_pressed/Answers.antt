@@ -9,20 +9,15 @@ use Rattle.lists.specs.First.{first_below}
 use Rattle.lists.proofs.Firsts.{none_before}
 use Rattle.reading.specs.Reading.{key_pressed}
 use native.Mathlib.Omega.{arith}
-use borrow.Author.Rules.{rules}
-use Rattle.reading.proofs.key_pressed.Statement.{statement}
-use Rattle.reading.proofs.key_pressed.Tie as tie
+use Rattle.reading.proofs.key_pressed.Goals as goal
 
 -- the table is right at a code: antt computes that it is so at each below 7
 unfoldable right : ℕ → Bool
 right code = (code =? 0) || (get_or (0 ∷ 0 ∷ 5 ∷ 3 ∷ 4 ∷ 1 ∷ 2 ∷ []) code 0 =? key_pressed code)
 
-returns : tie.Need-returns
+pub returns : goal.returns
 unfolding right key_pressed first_below when◌then◌else◌
 returns c =
-    let code = c.before.before.args.code in
+    let code = c.args.code in
     let h : code < 7 = omega arith in
     c.at.ensures ∙ eqb-true _ _ (rw (ne_eqb code 0 (omega arith)) at (not-false (right code) (none_before (λ k. not (right k)) 7 code h)))
-
-pub key-pressed-spec : {M : Type 1} → statement M
-key-pressed-spec = tie.close (tie.spec (λ c. search rules) (λ c κs. search rules) returns)
