@@ -55,20 +55,20 @@ abbrev gives : ℕ → Body
 gives w = assign (place 4 []) (rv_opd (literal (near w) (near (2 ^ 16 - w)) w))
 
 -- n arms from number k on, by the rule of the table: the word of a number is eight steps on it
-abbrev arms-from : ℕ → ℕ → Arms
-arms-from zero k = default (gives 0)
-arms-from (suc n) k = arm ((256 + k) ∷ []) (gives (after_bits 8 k)) (arms-from n (suc k))
+abbrev arms_from : ℕ → ℕ → Arms
+arms_from zero k = default (gives 0)
+arms_from (suc n) k = arm ((256 + k) ∷ []) (gives (after_bits 8 k)) (arms_from n (suc k))
 
 -- The table's rule, for all its words: the checker computes the table of the polynomial, and the code's match is that.
-rule : written.s-3 ≡ switch (copy (place 2 [])) (arms-from 256 0)
+rule : written.s-3 ≡ switch (copy (place 2 [])) (arms_from 256 0)
 unfolding after_bit when◌then◌else◌
 rule = refl
 
 same_number : (i k : ℕ) → 256 + i ≡ 256 + k → i ≡ k
 same_number i k e = omega arith
 
-later-number : (i k : ℕ) → k ≤ i → (256 + i ≡ 256 + k → ⊥) → k < i
-later-number i k most other = omega arith
+later_number : (i k : ℕ) → k ≤ i → (256 + i ≡ 256 + k → ⊥) → k < i
+later_number i k most other = omega arith
 
 abbrev stayed : Stays (word.ended).signature.params (word.ended).kept
 stayed = (stay_none (λ _. u8) yes, tt)
@@ -118,11 +118,11 @@ module _ {M : Type 1} {𝓤 : Ura M} (𝓛 : Logic 𝓤) (mem : Memory → SProp
         move ! (8 ∷ 9 ∷ []) $ free1 ! $ move ! (6 ∷ 7 ∷ []) $ free1 ! $ move ! (4 ∷ 5 ∷ []) $ free1 ! $ move ! (2 ∷ 3 ∷ []) $ free1 ! $ free1 ! $ free0 ! $ by ! (exits w h e)
 
     -- The rule carried to each word: the arms from number k on, where i is none of the numbers before.
-    each_word : (n k : ℕ) → n + k ≡ 256 → (N : Type 0) → (N → k ≤ i) → Cases Go 𝓛 Owned C Λ E Onward N (arms-from n k) (256 + i)
+    each_word : (n k : ℕ) → n + k ≡ 256 → (N : Type 0) → (N → k ≤ i) → Cases Go 𝓛 Owned C Λ E Onward N (arms_from n k) (256 + i)
     each_word zero k e N past = λ none. absurd (omega (arith, past none))
     each_word (suc n) k e N past = (
       λ same. runs_arm (after_bits 8 k) (bits_fit 8 k (omega arith)) (ap (after_bits 8) (sym (same_number i k same))),
-      each_word n (suc k) (omega arith) (N × (OneOf ((256 + k) ∷ []) (256 + i) → ⊥)) (λ none. later-number i k (past none.0) none.1),
+      each_word n (suc k) (omega arith) (N × (OneOf ((256 + k) ∷ []) (256 + i) → ⊥)) (λ none. later_number i k (past none.0) none.1),
     )
 
   module _ (C : Calls 𝓤 H) (Λ : Loops 𝓤 H) where
@@ -138,16 +138,16 @@ module _ {M : Type 1} {𝓤 : Ura M} (𝓛 : Logic 𝓤) (mem : Memory → SProp
 module _ {M : Type 1} {𝓤 : Ura M} (𝓛 : Logic 𝓤) (mem : Memory → SProp 𝓤) (run : Routine → Fun 𝓤) (𝓣 : Tables 𝓤 𝓛.H) where
   open 𝓛 use {H}
 
-  word-walks : Walks 𝓛 word.ended stayed (WpFn 𝓤 H 𝓣.C 𝓣.Λ code.function) (word.clauses 𝓛 mem run)
-  word-walks = walked 𝓛 word.ended stayed (word.clauses 𝓛 mem run) (WpFn 𝓤 H 𝓣.C 𝓣.Λ code.function) (λ κs. (uint_vals w8, tt)) (λ κs. (uint_Tells w8, tt))
+  word_walks : Walks 𝓛 word.ended stayed (WpFn 𝓤 H 𝓣.C 𝓣.Λ code.function) (word.clauses 𝓛 mem run)
+  word_walks = walked 𝓛 word.ended stayed (word.clauses 𝓛 mem run) (WpFn 𝓤 H 𝓣.C 𝓣.Λ code.function) (λ κs. (uint_vals w8, tt)) (λ κs. (uint_Tells w8, tt))
       (λ κs qs bounds a g are. via 𝓤 _ (fst∗ 𝓤 _ (emp 𝓤)) (walk 𝓛 mem run a.0 are.0.1 𝓣.C 𝓣.Λ))
 
-  word-meets : Meets 𝓛 word.signature (WpFn 𝓤 H 𝓣.C 𝓣.Λ code.function) (word.spec 𝓛 mem run)
-  word-meets = walk_Meets 𝓛 word.ended stayed (Goes-none 𝓛 0 (λ _. u8) yes (λ κs x f. refl), tt) (word.clauses 𝓛 mem run) (WpFn 𝓤 H 𝓣.C 𝓣.Λ code.function) (WpFn-mono 𝓤 H 𝓛.laws 𝓣 code.function) word-walks
+  word_meets : Meets 𝓛 word.signature (WpFn 𝓤 H 𝓣.C 𝓣.Λ code.function) (word.spec 𝓛 mem run)
+  word_meets = walk_Meets 𝓛 word.ended stayed (Goes-none 𝓛 0 (λ _. u8) yes (λ κs x f. refl), tt) (word.clauses 𝓛 mem run) (WpFn 𝓤 H 𝓣.C 𝓣.Λ code.function) (WpFn-mono 𝓤 H 𝓛.laws 𝓣 code.function) word_walks
 
 pub word_spec : {M : Type 1} → stated.statement M
 unfolding tables_of
 word_spec 𝓤 𝓛 𝓜 𝓡 w =
     entered 𝓤 𝓛.H (triple_of 𝓛 word.signature (word.spec 𝓛 𝓜.mem 𝓡.run))
     (tables 𝓤 𝓛.H 𝓜 𝓡 𝓡.env).C (tables 𝓤 𝓛.H 𝓜 𝓡 𝓡.env).Λ #word code.function (code.unfolded 𝓤 𝓛.H 𝓜 𝓡 w)
-    (word-meets 𝓛 𝓜.mem 𝓡.run (tables_of 𝓤 𝓛.H 𝓜 (tables 𝓤 𝓛.H 𝓜 𝓡 𝓡.env)))
+    (word_meets 𝓛 𝓜.mem 𝓡.run (tables_of 𝓤 𝓛.H 𝓜 (tables 𝓤 𝓛.H 𝓜 𝓡 𝓡.env)))
