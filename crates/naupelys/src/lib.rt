@@ -1,5 +1,6 @@
 // The panel for a C caller: the five calls of include/naupelys.h over lent bytes.
 #![tactic(auto)]
+
 ghost use Rattle.std.specs.Prelude.{◌≡◌, length};
 ghost use Rattle.linecall.specs.Line.{lent};
 ghost use Rattle.linebytes.specs.Line.{records_in, LineBytes};
