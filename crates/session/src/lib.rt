@@ -1,25 +1,28 @@
-// What the programs share: the calls on standard input's bytes until each piece waits for more, and what is told of them.
+// What the programs share: the calls on a reader's bytes until each piece waits for more, and what is told of them.
 #![tactic(auto)]
+
 ghost use Rattle.std.specs.Prelude.{◌≡◌};
 ghost use Rattle.session.specs.Calls.{held_in, CallsOn};
 
 use kept::{Session, with_call, with_piece};
-use libc::STDIN_FILENO;
 use saidreads::told;
 use sizes::{FAULTS, FONT, LIST, PICTURE, PIECE, REPLY, SAID, STATE};
 use statebytes::places::COUNT;
+use std::io::Read;
 use tally::WAITING;
 
 pub mod sizes;
 
 // Reads a piece where the last call waited: a read brings what has arrived and does not wait for a full buffer. A failed read
 // is not taken for the end of the input.
-fn supplied(s: Session, piece: &mut [u8; PIECE]) -> Session {
+fn supplied<R: Read>(s: Session, input: &mut R, piece: &mut [u8; PIECE]) -> Session {
     if s.call.number != WAITING {
         return s;
     }
-    let got = libc::read(STDIN_FILENO, piece);
-    with_piece(s, io::count(got, piece), got < 0)
+    match input.read(piece) {
+        Ok(count) => with_piece(s, count, false),
+        Err(_) => with_piece(s, 0, true),
+    }
 }
 
 // How many bytes of the line the state holds.
@@ -61,8 +64,9 @@ pub fn call(
 
 // The next call: on what is left of the piece, or, where the last one waited, on a piece that is read first. A packet's call
 // is followed by one that goes on behind it, so that a piece is called on until it waits.
-pub fn step(
+pub fn step<R: Read>(
     s: Session,
+    input: &mut R,
     piece: &mut [u8; PIECE],
     state: &mut [u8; STATE],
     picture: &mut [u8; PICTURE],
@@ -72,7 +76,7 @@ pub fn step(
     faults: &mut [u8; FAULTS],
     said: &mut [u8; SAID],
 ) -> Session {
-    let t = supplied(s, piece);
+    let t = supplied(s, input, piece);
     if t.over {
         return t;
     }
