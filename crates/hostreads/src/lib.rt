@@ -1,5 +1,6 @@
 // Reading what a panel writes for a C caller: the call of include/naupelys_host.h over lent bytes.
 #![tactic(auto)]
+
 ghost use Rattle.std.specs.Prelude.{◌≡◌, [], ◌∷◌, ◌≤◌};
 ghost use Rattle.packets.specs.Packet.{content_most, padded};
 ghost use Rattle.replies.specs.Replies.{bit};
