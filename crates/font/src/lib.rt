@@ -1,5 +1,6 @@
 // The programs' font.
 #![tactic(auto)]
+
 ghost use Rattle.font.specs.Font.{IsFont};
 
 use picture::repaint::FONT;
