@@ -1,29 +1,35 @@
 // The line program: host bytes on standard input, a line of text a packet on standard output.
 #![tactic(auto)]
+
 use kept::{Session, going};
-use libc::{STDERR_FILENO, STDOUT_FILENO};
 use session::sizes::{FAULTS, FONT, LIST, PICTURE, PIECE, REPLY, SAID, STATE};
 use statebytes::places::COUNT;
+use std::io::Read;
 use tally::WAITING;
 
 // Writes the front of a buffer; whether all of it was written. A failed write is told on standard error.
-fn put(out: &[u8], length: usize) -> bool {
+fn put<R: Print + Eprint>(rt: &R, out: &[u8], length: usize) -> bool {
     let n = lists::at_most(length, out.len());
-    let done = io::write_all(STDOUT_FILENO, &out[..n]);
+    let done = rt.write_all(&out[..n]).is_ok();
     if !done {
-        io::write_all(STDERR_FILENO, b"line: standard output cannot be written\n");
+        say(rt, "line: standard output cannot be written");
     }
     done
 }
 
+// A line on standard error. Where that cannot be written either, nobody can be told.
+fn say<R: Eprint>(rt: &R, words: &str) {
+    let _ = rt.eprintln(words);
+}
+
 // The line of the packet that the last call found; the session ends where it cannot be written.
-fn told(s: Session) -> Session {
+fn told<R: Print + Eprint>(rt: &R, s: Session) -> Session {
     if s.over | (s.call.number == WAITING) {
         return s;
     }
     let mut out = [0u8; 200];
     let n = lines::event(&mut out, s.sums.events, s.sums.offset, s.call);
-    if put(&out, n) {
+    if put(rt, &out, n) {
         return s;
     }
     Session {
@@ -34,7 +40,9 @@ fn told(s: Session) -> Session {
 }
 
 // The steps of a session, to its end.
-fn hear(
+fn hear<R: Print + Eprint, I: Read>(
+    rt: &R,
+    input: &mut I,
     piece: &mut [u8; PIECE],
     state: &mut [u8; STATE],
     picture: &mut [u8; PICTURE],
@@ -47,16 +55,19 @@ fn hear(
     let mut s = kept::started();
     let mut steps: u64 = 0;
     while going(steps, s.over) {
-        s = told(session::step(s, piece, state, picture, font, list, reply, faults, said));
+        let called = session::step(
+            s, input, piece, state, picture, font, list, reply, faults, said,
+        );
+        s = told(rt, called);
         steps += 1;
     }
     s
 }
 
 // A failed read is told on standard error, and the last line is written, unless output was lost.
-fn finish(s: Session, state: &[u8; STATE]) {
+fn finish<R: Print + Eprint>(rt: &R, s: Session, state: &[u8; STATE]) {
     if s.failed {
-        io::write_all(STDERR_FILENO, b"line: standard input cannot be read\n");
+        say(rt, "line: standard input cannot be read");
     }
     if s.lost {
         return;
@@ -64,12 +75,12 @@ fn finish(s: Session, state: &[u8; STATE]) {
     let mut out = [0u8; 200];
     let held = lists::at(state, COUNT) as u64;
     let n = lines::end(&mut out, s.sums, held);
-    put(&out, n);
+    put(rt, &out, n);
 }
 
-fn main() {
+fn main(rt: HostRuntime) {
     let heading = b"event offset kind command reason place cells\n";
-    if !put(heading, heading.len()) {
+    if !put(&rt, heading, heading.len()) {
         return;
     }
     let font = font::program_font();
@@ -77,11 +88,14 @@ fn main() {
     let mut picture = [0u8; PICTURE];
     let mut said = [0u8; SAID];
     naupelys::naupelys_power_on(&mut state, &mut picture, &font, &mut said);
-    let mut piece = io::buffer();
+    let mut piece = [0u8; PIECE];
     let mut list = [0u8; LIST];
     let mut reply = [0u8; REPLY];
     let mut faults = [0u8; FAULTS];
+    let mut input = rt.stdin();
     let s = hear(
+        &rt,
+        &mut input,
         &mut piece,
         &mut state,
         &mut picture,
@@ -91,5 +105,5 @@ fn main() {
         &mut faults,
         &mut said,
     );
-    finish(s, &state);
+    finish(&rt, s, &state);
 }
