@@ -37,8 +37,7 @@ fn told(said: &mut [u8; SAID], r: Composing) -> u8
 }
 
 // The packet of a code and data bytes.
-#[unsafe(no_mangle)]
-pub extern "C" fn naupelys_compose(
+pub fn naupelys_compose(
     code: u32,
     data: &[u8],
     packet: &mut [u8],

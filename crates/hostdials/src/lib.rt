@@ -7,15 +7,13 @@ ghost use Rattle.host.specs.Calls.{CommandBytes};
 use commands::Command;
 use saidbytes::SAID;
 
-#[unsafe(no_mangle)]
-pub extern "C" fn naupelys_compose_style(style: u8, packet: &mut [u8], said: &mut [u8; SAID]) -> u8
+pub fn naupelys_compose_style(style: u8, packet: &mut [u8], said: &mut [u8; SAID]) -> u8
     ensures { CommandBytes (Command.SetStyle style) [] packet.old result packet.new said.new }
 {
     host::command(Command::SetStyle { style }, &[], packet, said)
 }
 
-#[unsafe(no_mangle)]
-pub extern "C" fn naupelys_compose_contrast(
+pub fn naupelys_compose_contrast(
     contrast: u8,
     packet: &mut [u8],
     said: &mut [u8; SAID],
@@ -25,8 +23,7 @@ pub extern "C" fn naupelys_compose_contrast(
     host::command(Command::SetContrast { contrast }, &[], packet, said)
 }
 
-#[unsafe(no_mangle)]
-pub extern "C" fn naupelys_compose_backlight(
+pub fn naupelys_compose_backlight(
     backlight: u8,
     packet: &mut [u8],
     said: &mut [u8; SAID],

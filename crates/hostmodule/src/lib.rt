@@ -7,15 +7,13 @@ ghost use Rattle.host.specs.Calls.{CommandBytes};
 use commands::Command;
 use saidbytes::SAID;
 
-#[unsafe(no_mangle)]
-pub extern "C" fn naupelys_compose_ping(data: &[u8], packet: &mut [u8], said: &mut [u8; SAID]) -> u8
+pub fn naupelys_compose_ping(data: &[u8], packet: &mut [u8], said: &mut [u8; SAID]) -> u8
     ensures { CommandBytes Command.Ping «data».now packet.old result packet.new said.new }
 {
     host::command(Command::Ping, data, packet, said)
 }
 
-#[unsafe(no_mangle)]
-pub extern "C" fn naupelys_compose_flash(
+pub fn naupelys_compose_flash(
     flash: &[u8],
     packet: &mut [u8],
     said: &mut [u8; SAID],
@@ -25,15 +23,13 @@ pub extern "C" fn naupelys_compose_flash(
     host::command(Command::WriteFlash, flash, packet, said)
 }
 
-#[unsafe(no_mangle)]
-pub extern "C" fn naupelys_compose_reboot(packet: &mut [u8], said: &mut [u8; SAID]) -> u8
+pub fn naupelys_compose_reboot(packet: &mut [u8], said: &mut [u8; SAID]) -> u8
     ensures { CommandBytes Command.Reboot [] packet.old result packet.new said.new }
 {
     host::command(Command::Reboot, &[], packet, said)
 }
 
-#[unsafe(no_mangle)]
-pub extern "C" fn naupelys_compose_memory(
+pub fn naupelys_compose_memory(
     address: u8,
     packet: &mut [u8],
     said: &mut [u8; SAID],

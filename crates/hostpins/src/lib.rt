@@ -7,8 +7,7 @@ ghost use Rattle.host.specs.Calls.{CommandBytes};
 use commands::Command;
 use saidbytes::SAID;
 
-#[unsafe(no_mangle)]
-pub extern "C" fn naupelys_compose_masks(
+pub fn naupelys_compose_masks(
     press: u8,
     release: u8,
     packet: &mut [u8],
@@ -19,8 +18,7 @@ pub extern "C" fn naupelys_compose_masks(
     host::command(Command::SetMasks { press, release }, &[], packet, said)
 }
 
-#[unsafe(no_mangle)]
-pub extern "C" fn naupelys_compose_pin(
+pub fn naupelys_compose_pin(
     pin: u8,
     level: u8,
     packet: &mut [u8],
@@ -31,8 +29,7 @@ pub extern "C" fn naupelys_compose_pin(
     host::command(Command::SetPin { pin, level }, &[], packet, said)
 }
 
-#[unsafe(no_mangle)]
-pub extern "C" fn naupelys_compose_pin_config(
+pub fn naupelys_compose_pin_config(
     pin: u8,
     level: u8,
     config: u8,
@@ -49,8 +46,7 @@ pub extern "C" fn naupelys_compose_pin_config(
     )
 }
 
-#[unsafe(no_mangle)]
-pub extern "C" fn naupelys_compose_read_pin(pin: u8, packet: &mut [u8], said: &mut [u8; SAID]) -> u8
+pub fn naupelys_compose_read_pin(pin: u8, packet: &mut [u8], said: &mut [u8; SAID]) -> u8
     ensures { CommandBytes (Command.ReadPin pin) [] packet.old result packet.new said.new }
 {
     host::command(Command::ReadPin { pin }, &[], packet, said)

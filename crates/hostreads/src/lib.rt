@@ -69,8 +69,7 @@ fn read_number(meaning: Meaning) -> u8
 }
 
 // What the bytes mean, where they are exactly one reply, error reply or report that a panel can write.
-#[unsafe(no_mangle)]
-pub extern "C" fn naupelys_read_reply(bytes: &[u8], out: &mut [u8; READING]) -> u8
+pub fn naupelys_read_reply(bytes: &[u8], out: &mut [u8; READING]) -> u8
     ensures { ReadBytes bytes.now result out.new }
 {
     let r = reading::read(bytes);

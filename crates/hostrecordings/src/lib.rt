@@ -6,8 +6,7 @@ ghost use Rattle.hostrecordings.specs.Next.{TellsNext};
 use recordings::PACKET;
 
 // The next host packet from the place on. Without one the lent numbers are as they came.
-#[unsafe(no_mangle)]
-pub extern "C" fn naupelys_recording_next(
+pub fn naupelys_recording_next(
     recording: &[u8],
     place: &mut usize,
     kind: &mut u8,

@@ -7,8 +7,7 @@ ghost use Rattle.host.specs.Calls.{CommandBytes};
 use commands::Command;
 use saidbytes::SAID;
 
-#[unsafe(no_mangle)]
-pub extern "C" fn naupelys_compose_glyph(
+pub fn naupelys_compose_glyph(
     index: u8,
     rows: &[u8],
     packet: &mut [u8],
@@ -19,8 +18,7 @@ pub extern "C" fn naupelys_compose_glyph(
     host::command(Command::SetGlyph { index }, rows, packet, said)
 }
 
-#[unsafe(no_mangle)]
-pub extern "C" fn naupelys_compose_cursor(
+pub fn naupelys_compose_cursor(
     column: u8,
     row: u8,
     packet: &mut [u8],
@@ -31,8 +29,7 @@ pub extern "C" fn naupelys_compose_cursor(
     host::command(Command::SetCursor { column, row }, &[], packet, said)
 }
 
-#[unsafe(no_mangle)]
-pub extern "C" fn naupelys_compose_text(
+pub fn naupelys_compose_text(
     column: u8,
     row: u8,
     text: &[u8],

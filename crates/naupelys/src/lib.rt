@@ -51,8 +51,7 @@ fn ended(state: &mut [u8], s: Said, said: &mut [u8; SAID]) -> u8
 }
 
 // The panel at power-on. It needs no state that can be read, only the room for one.
-#[unsafe(no_mangle)]
-pub extern "C" fn naupelys_power_on(
+pub fn naupelys_power_on(
     state: &mut [u8],
     picture: &mut [u8],
     font: &[u8],
@@ -69,8 +68,7 @@ pub extern "C" fn naupelys_power_on(
 }
 
 // A piece of the line.
-#[unsafe(no_mangle)]
-pub extern "C" fn naupelys_line(
+pub fn naupelys_line(
     state: &mut [u8],
     piece: &[u8],
     picture: &mut [u8],
@@ -86,8 +84,7 @@ pub extern "C" fn naupelys_line(
 }
 
 // A key goes down or up.
-#[unsafe(no_mangle)]
-pub extern "C" fn naupelys_key(
+pub fn naupelys_key(
     state: &mut [u8],
     key: u32,
     down: bool,
@@ -101,8 +98,7 @@ pub extern "C" fn naupelys_key(
 }
 
 // The level at a pin.
-#[unsafe(no_mangle)]
-pub extern "C" fn naupelys_pin(state: &mut [u8], pin: u32, high: bool, said: &mut [u8; SAID]) -> u8
+pub fn naupelys_pin(state: &mut [u8], pin: u32, high: bool, said: &mut [u8; SAID]) -> u8
     ensures { PinBytes state.old pin high result state.new said.new }
 {
     let s = events::pins::pin(panel_in(state), pin, high);
@@ -110,8 +106,7 @@ pub extern "C" fn naupelys_pin(state: &mut [u8], pin: u32, high: bool, said: &mu
 }
 
 // The cells that a glyph is on. The state is only read.
-#[unsafe(no_mangle)]
-pub extern "C" fn naupelys_symbol_cells(
+pub fn naupelys_symbol_cells(
     state: &[u8],
     glyph: u32,
     list: &mut [u8],
