@@ -7,6 +7,7 @@ use crate::words::{
 use naupelys::{naupelys_key, naupelys_line, naupelys_pin, naupelys_power_on};
 use saidreads::told;
 use session::sizes;
+use std::io::Stdout;
 use tally::CallTold;
 
 // A case begins: the programs' font, the panel at power-on and an empty register.
@@ -26,9 +27,9 @@ pub fn begin() -> Buffers {
 }
 
 // One line call, over bytes or by value, with a line for it.
-fn call(by_value: bool, b: Buffers, piece: &[u8]) -> Buffers {
+fn call(stdout: Stdout, by_value: bool, b: Buffers, piece: &[u8]) -> Buffers {
     if by_value {
-        return crate::value::line(b, piece);
+        return crate::value::line(stdout, b, piece);
     }
     let mut state = b.state;
     let mut picture = b.picture;
@@ -47,7 +48,7 @@ fn call(by_value: bool, b: Buffers, piece: &[u8]) -> Buffers {
         &mut faults,
         &mut said,
     );
-    crate::show::line(&said, &reply, &list);
+    crate::show::line(stdout, &said, &reply, &list);
     let mut t = b;
     t.state = state;
     t.picture = picture;
@@ -64,11 +65,11 @@ fn last(b: Buffers) -> CallTold {
 // Calls until all is taken and the answer is waiting. A line of the script spells at most 256 bytes, so that by framing's
 // `four_bytes_a_packet`, with at most 25 bytes held before, there are no more calls than the loop allows; no call takes more
 // than its piece.
-fn calls(by_value: bool, before: Buffers, bytes: &[u8]) -> Buffers {
+fn calls(stdout: Stdout, by_value: bool, before: Buffers, bytes: &[u8]) -> Buffers {
     let mut b = before;
     let mut at: usize = 0;
     for _ in 0..72usize {
-        b = call(by_value, b, &bytes[at..]);
+        b = call(stdout, by_value, b, &bytes[at..]);
         let c = last(b);
         at += lists::at_most(c.taken as usize, bytes.len() - at);
         if (c.number < 2) | (4 < c.number) {
@@ -79,7 +80,7 @@ fn calls(by_value: bool, before: Buffers, bytes: &[u8]) -> Buffers {
 }
 
 // A key pressed, or released.
-fn key(line: &[u8], down: bool, state: [u8; sizes::STATE]) -> [u8; sizes::STATE] {
+fn key(stdout: Stdout, line: &[u8], down: bool, state: [u8; sizes::STATE]) -> [u8; sizes::STATE] {
     let mut t = state;
     let mut reply = [0u8; sizes::REPLY];
     let mut said = [0u8; sizes::SAID];
@@ -90,16 +91,16 @@ fn key(line: &[u8], down: bool, state: [u8; sizes::STATE]) -> [u8; sizes::STATE]
         &mut reply,
         &mut said,
     );
-    crate::show::key(&said, &reply);
+    crate::show::key(stdout, &said, &reply);
     t
 }
 
 // A pin that goes high, or low.
-fn pin(line: &[u8], high: bool, state: [u8; sizes::STATE]) -> [u8; sizes::STATE] {
+fn pin(stdout: Stdout, line: &[u8], high: bool, state: [u8; sizes::STATE]) -> [u8; sizes::STATE] {
     let mut t = state;
     let mut said = [0u8; sizes::SAID];
     naupelys_pin(&mut t, decimal(line, 0, 255) as u32, high, &mut said);
-    crate::show::call(&said);
+    crate::show::call(stdout, &said);
     t
 }
 
@@ -115,14 +116,19 @@ fn rows(b: Buffers, bytes: &[u8]) -> Buffers {
 }
 
 // A word that changes the state alone.
-fn on_state(word: usize, line: &[u8], state: [u8; sizes::STATE]) -> [u8; sizes::STATE] {
+fn on_state(
+    stdout: Stdout,
+    word: usize,
+    line: &[u8],
+    state: [u8; sizes::STATE],
+) -> [u8; sizes::STATE] {
     match word {
-        PRESS => key(line, true, state),
-        RELEASE => key(line, false, state),
-        LEND => crate::wrong::lend(line, state),
-        HIGH => pin(line, true, state),
-        LOW => pin(line, false, state),
-        SIZES => crate::wrong::sizes(line, state),
+        PRESS => key(stdout, line, true, state),
+        RELEASE => key(stdout, line, false, state),
+        LEND => crate::wrong::lend(stdout, line, state),
+        HIGH => pin(stdout, line, true, state),
+        LOW => pin(stdout, line, false, state),
+        SIZES => crate::wrong::sizes(stdout, line, state),
         SET => crate::wrong::set(line, state),
         UNFILED => crate::wrong::unfiled(line, state),
         MARK => crate::wrong::mark(line, state),
@@ -131,20 +137,20 @@ fn on_state(word: usize, line: &[u8], state: [u8; sizes::STATE]) -> [u8; sizes::
 }
 
 // What is lent after a line of the script that spells these bytes.
-pub fn run(word: usize, line: &[u8], bytes: &[u8], b: Buffers) -> Buffers {
+pub fn run(stdout: Stdout, word: usize, line: &[u8], bytes: &[u8], b: Buffers) -> Buffers {
     match word {
         HEADING => {
-            crate::text::word(line);
-            crate::text::end();
+            crate::text::word(stdout, line);
+            crate::text::end(stdout);
             begin()
         }
-        LINE => calls(false, b, bytes),
-        VALUE => calls(true, b, bytes),
+        LINE => calls(stdout, false, b, bytes),
+        VALUE => calls(stdout, true, b, bytes),
         FONT => rows(b, bytes),
         COUNT => crate::wrong::count(line, b),
         _ => {
             let before = b.state;
-            let state = on_state(word, line, before);
+            let state = on_state(stdout, word, line, before);
             let mut t = b;
             t.state = state;
             t

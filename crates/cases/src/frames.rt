@@ -5,6 +5,7 @@ use crate::text::{byte, labelled, word};
 use crate::words::{COMPOSE, CUTS, HEADING, SCAN, SUM};
 use framing::Scanned;
 use packets::Hold;
+use std::io::Stdout;
 use std::num::wrapping_add_usize;
 
 // What calls come to, besides their packets; of the last one what it took and whether it found a packet.
@@ -18,24 +19,24 @@ struct Sums {
 }
 
 // What a call took, where `took` says so, and its packet.
-fn shown(r: Scanned, took: bool) {
+fn shown(stdout: Stdout, r: Scanned, took: bool) {
     if took {
-        labelled(b" took ", r.counts.taken);
+        labelled(stdout, b" took ", r.counts.taken);
     }
     if r.found {
         let content = r.packet.content;
-        word(b" [");
-        byte(r.packet.kind, true);
-        crate::text::bytes(&content, 0, r.packet.length, true);
-        word(b"]");
+        word(stdout, b" [");
+        byte(stdout, r.packet.kind, true);
+        crate::text::bytes(stdout, &content, 0, r.packet.length, true);
+        word(stdout, b"]");
     }
 }
 
 // One call.
-fn call(s: Sums, piece: &[u8], took: bool) -> Sums {
+fn call(stdout: Stdout, s: Sums, piece: &[u8], took: bool) -> Sums {
     let before = s.hold;
     let r = framing::scan(before, piece);
-    shown(r, took);
+    shown(stdout, r, took);
     let hold = r.hold;
     Sums {
         hold,
@@ -46,17 +47,17 @@ fn call(s: Sums, piece: &[u8], took: bool) -> Sums {
     }
 }
 
-fn told(s: Sums) {
-    labelled(b"; dropped ", s.dropped);
-    labelled(b" checked ", s.checked);
-    labelled(b" held ", s.hold.count);
-    crate::text::end();
+fn told(stdout: Stdout, s: Sums) {
+    labelled(stdout, b"; dropped ", s.dropped);
+    labelled(stdout, b" checked ", s.checked);
+    labelled(stdout, b" held ", s.hold.count);
+    crate::text::end(stdout);
 }
 
 // Calls until all is taken and the answer is waiting: on the bytes before `cut`, and then on the rest. A line of the script
 // spells at most 256 bytes, so that by `four_bytes_a_packet`, with at most 25 bytes held before, there are no more calls than
 // the loop allows; no call takes more than its piece.
-fn calls(before: Hold, bytes: &[u8], cut: usize, took: bool) -> Hold
+fn calls(stdout: Stdout, before: Hold, bytes: &[u8], cut: usize, took: bool) -> Hold
     requires { cut ≤ length bytes.now }
 {
     let mut s = Sums {
@@ -71,11 +72,11 @@ fn calls(before: Hold, bytes: &[u8], cut: usize, took: bool) -> Hold
     let mut n: usize = 0;
     while n < 80 {
         n += 1;
-        s = call(s, &bytes[at..end], took);
+        s = call(stdout, s, &bytes[at..end], took);
         at += lists::at_most(s.taken, end - at);
         if !s.found {
             if end == bytes.len() {
-                told(s);
+                told(stdout, s);
                 return s.hold;
             }
             end = bytes.len();
@@ -85,30 +86,30 @@ fn calls(before: Hold, bytes: &[u8], cut: usize, took: bool) -> Hold
 }
 
 // The bytes cut in two at each place, from nothing held.
-fn cuts(bytes: &[u8]) {
+fn cuts(stdout: Stdout, bytes: &[u8]) {
     for at in 0..bytes.len() {
-        labelled(b"cut at ", at);
-        calls(packets::empty(), bytes, at, false);
+        labelled(stdout, b"cut at ", at);
+        calls(stdout, packets::empty(), bytes, at, false);
     }
 }
 
-fn compose(bytes: &[u8]) {
+fn compose(stdout: Stdout, bytes: &[u8]) {
     let mut out = [0u8; 26];
     if 0 < bytes.len() {
         let n = packets::compose(&mut out, lists::at(bytes, 0), &bytes[1..]);
-        crate::text::bytes(&out, 0, n, true);
+        crate::text::bytes(stdout, &out, 0, n, true);
     }
-    crate::text::end();
+    crate::text::end(stdout);
 }
 
 // What is held after a line of the script that spells these bytes.
-pub fn run(name: usize, bytes: &[u8], held: Hold) -> Hold {
+pub fn run(stdout: Stdout, name: usize, bytes: &[u8], held: Hold) -> Hold {
     match name {
         HEADING => return packets::empty(),
-        SCAN => return calls(held, bytes, bytes.len(), true),
-        CUTS => cuts(bytes),
-        COMPOSE => compose(bytes),
-        SUM => crate::text::checksum(bytes),
+        SCAN => return calls(stdout, held, bytes, bytes.len(), true),
+        CUTS => cuts(stdout, bytes),
+        COMPOSE => compose(stdout, bytes),
+        SUM => crate::text::checksum(stdout, bytes),
         _ => {}
     }
     held

@@ -4,15 +4,16 @@ use crate::words::{ASK, READ, TEXT};
 use hostreads::READING;
 use packets::REPLY;
 use saidbytes::SAID;
+use std::io::Stdout;
 
 // What a composer says, and its packet.
-fn told(said: &[u8; SAID], packet: &[u8; REPLY]) {
-    filled(b" % % % %:", said, 0);
-    bytes(packet, 0, lists::wide(said[12]), true);
-    end();
+fn told(stdout: Stdout, said: &[u8; SAID], packet: &[u8; REPLY]) {
+    filled(stdout, b" % % % %:", said, 0);
+    bytes(stdout, packet, 0, lists::wide(said[12]), true);
+    end(stdout);
 }
 
-fn ask(given: &[u8]) {
+fn ask(stdout: Stdout, given: &[u8]) {
     let mut packet = [0u8; REPLY];
     let mut said = [0u8; SAID];
     if 0 < given.len() {
@@ -23,38 +24,38 @@ fn ask(given: &[u8]) {
             &mut said,
         );
     }
-    told(&said, &packet);
+    told(stdout, &said, &packet);
 }
 
-fn text(given: &[u8]) {
+fn text(stdout: Stdout, given: &[u8]) {
     let mut packet = [0u8; REPLY];
     let mut said = [0u8; SAID];
     if 1 < given.len() {
         hostscreen::naupelys_compose_text(given[0], given[1], &given[2..], &mut packet, &mut said);
     }
-    told(&said, &packet);
+    told(stdout, &said, &packet);
 }
 
 // Kind, command, how many values, and the values.
-fn shown(out: &[u8; READING]) {
+fn shown(stdout: Stdout, out: &[u8; READING]) {
     let behind = 3 + lists::wide(out[2]);
-    bytes(out, 0, behind, false);
-    end();
+    bytes(stdout, out, 0, behind, false);
+    end(stdout);
 }
 
-fn read(given: &[u8]) {
+fn read(stdout: Stdout, given: &[u8]) {
     let mut out = [0u8; READING];
     let number = hostreads::naupelys_read_reply(given, &mut out);
-    labelled(b" ", lists::wide(number));
-    word(b":");
-    shown(&out);
+    labelled(stdout, b" ", lists::wide(number));
+    word(stdout, b":");
+    shown(stdout, &out);
 }
 
-pub fn run(name: usize, given: &[u8]) {
+pub fn run(stdout: Stdout, name: usize, given: &[u8]) {
     match name {
-        ASK => ask(given),
-        TEXT => text(given),
-        READ => read(given),
+        ASK => ask(stdout, given),
+        TEXT => text(stdout, given),
+        READ => read(stdout, given),
         _ => {}
     }
 }

@@ -18,6 +18,7 @@
 // "next" asks for the next host packet from a place on and prints what the call says, and the packet's data.
 
 #![tactic(auto)]
+
 mod buffers;
 mod device;
 mod frames;
@@ -29,8 +30,15 @@ mod value;
 mod words;
 mod wrong;
 
+ghost use Rattle.std.specs.Prelude.{◌≤◌, length};
+
+use std::io::{Read, Stdin, Stdout};
+
+// Room for a script.
+const SCRIPT: usize = 65536;
+
 // The cases, one line after the other.
-fn run(script: &[u8]) {
+fn run(stdout: Stdout, script: &[u8]) {
     let mut buffers = device::begin();
     let mut held = packets::empty();
     let mut tape = [0u8; tapes::ROOM];
@@ -40,20 +48,36 @@ fn run(script: &[u8]) {
         let end = text::until(script, at, b'\n');
         let line = &script[at..end];
         at = end + 1;
-        let word = words::number(line);
+        let word = words::number(stdout, line);
         let mut room = [0u8; 256];
         let n = text::bytes_of(line, &mut room);
         let bytes = &room[..n];
-        held = frames::run(word, bytes, held);
-        buffers = device::run(word, line, bytes, buffers);
-        show::run(word, line, buffers);
-        hosts::run(word, bytes);
-        size = tapes::run(word, line, bytes, &mut tape, size);
+        held = frames::run(stdout, word, bytes, held);
+        buffers = device::run(stdout, word, line, bytes, buffers);
+        show::run(stdout, word, line, buffers);
+        hosts::run(stdout, word, bytes);
+        size = tapes::run(stdout, word, line, bytes, &mut tape, size);
     }
 }
 
-fn main() {
-    let mut script = io::large_buffer();
-    let n = io::read_full(libc::STDIN_FILENO, &mut script);
-    run(&script[..n]);
+// Fills the room from standard input, until it is full, the input ends or a read fails. How many bytes were read.
+fn read_full(from: Stdin, room: &mut [u8]) -> usize
+    ensures { result ≤ length room.new }
+{
+    let mut input = from;
+    let mut n: usize = 0;
+    while n < room.len() {
+        let more = input.read(&mut room[n..]).unwrap_or(0);
+        if more == 0 {
+            return n;
+        }
+        n += more;
+    }
+    n
+}
+
+fn main(rt: HostRuntime) {
+    let mut script = [0u8; SCRIPT];
+    let n = read_full(rt.stdin(), &mut script);
+    run(rt.stdout(), &script[..n]);
 }

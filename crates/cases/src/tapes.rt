@@ -1,6 +1,7 @@
 // Cases of recordings. A case puts its recording together, and asks for its packets. The word that a line begins with stands already.
 use crate::text::{bytes, decimal, end, labelled, word};
 use crate::words::{FILL, HEADING, NEXT, TAPE};
+use std::io::Stdout;
 
 // Room for a recording, and for one byte more than the longest has.
 pub const ROOM: usize = recordings::LONGEST + 1;
@@ -24,7 +25,7 @@ fn with_run(tape: &mut [u8; ROOM], size: usize, n: usize, byte: u8) -> usize {
 }
 
 // What the call says from a place on: the number, type, start, length and place, and the data bytes.
-fn next(tape: &[u8], size: usize, from: usize) {
+fn next(stdout: Stdout, tape: &[u8], size: usize, from: usize) {
     let recording = readers::part(tape, 0, size);
     let mut place = from;
     let mut kind: u8 = 0;
@@ -37,25 +38,32 @@ fn next(tape: &[u8], size: usize, from: usize) {
         &mut start,
         &mut length,
     );
-    labelled(b" ", lists::wide(number));
-    labelled(b" ", lists::wide(kind));
-    labelled(b" ", start);
-    labelled(b" ", length);
-    labelled(b" ", place);
-    word(b":");
+    labelled(stdout, b" ", lists::wide(number));
+    labelled(stdout, b" ", lists::wide(kind));
+    labelled(stdout, b" ", start);
+    labelled(stdout, b" ", length);
+    labelled(stdout, b" ", place);
+    word(stdout, b":");
     let content = readers::part(recording, start, length);
-    bytes(content, 0, content.len(), true);
-    end();
+    bytes(stdout, content, 0, content.len(), true);
+    end(stdout);
 }
 
 // The recording's size after the line.
-pub fn run(name: usize, line: &[u8], given: &[u8], tape: &mut [u8; ROOM], size: usize) -> usize {
+pub fn run(
+    stdout: Stdout,
+    name: usize,
+    line: &[u8],
+    given: &[u8],
+    tape: &mut [u8; ROOM],
+    size: usize,
+) -> usize {
     match name {
         HEADING => 0,
         TAPE => with_bytes(tape, size, given),
         FILL => with_run(tape, size, decimal(line, 0, ROOM), last(given)),
         NEXT => {
-            next(tape, size, decimal(line, 0, usize::MAX));
+            next(stdout, tape, size, decimal(line, 0, usize::MAX));
             size
         }
         _ => size,

@@ -1,7 +1,7 @@
 // Words, numbers and bytes as text.
 ghost use Rattle.std.specs.Prelude.{◌≤◌, length};
 
-use libc::STDOUT_FILENO;
+use std::io::Stdout;
 use std::num::wrapping_add_usize;
 
 // Where the mark stands first from `from` on, or where the text ends.
@@ -47,32 +47,33 @@ pub fn bytes_of(s: &[u8], out: &mut [u8]) -> usize
     lists::at_most(n, out.len())
 }
 
-pub fn word(s: &[u8]) {
-    io::write_all(STDOUT_FILENO, s);
+// The bytes as they are. Here and below a failed write is passed over.
+pub fn word(stdout: Stdout, s: &[u8]) {
+    let _ = stdout.write_all(s);
 }
 
 // The end of a line.
-pub fn end() {
-    word(b"\n");
+pub fn end(stdout: Stdout) {
+    word(stdout, b"\n");
 }
 
 // A text, and a number in decimal behind it.
-pub fn labelled(text: &[u8], n: usize) {
-    word(text);
-    io::print_decimal(STDOUT_FILENO, n as u64);
+pub fn labelled(stdout: Stdout, text: &[u8], n: usize) {
+    word(stdout, text);
+    let _ = print!(stdout; "{n}");
 }
 
 // The text with the bytes of `s` from a place on, in decimal, in place of its % marks.
-pub fn filled(text: &[u8], s: &[u8], place: usize)
+pub fn filled(stdout: Stdout, text: &[u8], s: &[u8], place: usize)
     requires { place ≤ 1000 }
 {
     let mut at: usize = 0;
     let mut i: usize = 0;
     while at < text.len() {
         let end = until(text, at, b'%');
-        word(&text[at..end]);
+        word(stdout, &text[at..end]);
         if end < text.len() {
-            byte(lists::at(s, place + i), false);
+            byte(stdout, lists::at(s, place + i), false);
         }
         at = end + 1;
         i += 1;
@@ -80,29 +81,30 @@ pub fn filled(text: &[u8], s: &[u8], place: usize)
 }
 
 // A byte in hexadecimal or in decimal.
-pub fn byte(b: u8, hex: bool) {
+pub fn byte(stdout: Stdout, b: u8, hex: bool) {
     if hex {
-        io::print_hex(STDOUT_FILENO, b as u64, 2);
+        let _ = print!(stdout; "{b:02x}");
     } else {
-        io::print_decimal(STDOUT_FILENO, b as u64);
+        let _ = print!(stdout; "{b}");
     }
 }
 
 // The bytes from one place up to another, each behind a blank.
-pub fn bytes(s: &[u8], from: usize, to: usize, hex: bool) {
+pub fn bytes(stdout: Stdout, s: &[u8], from: usize, to: usize, hex: bool) {
     let mut i = from;
     while i < to {
-        word(b" ");
-        byte(lists::at(s, i), hex);
+        word(stdout, b" ");
+        byte(stdout, lists::at(s, i), hex);
         i += 1;
     }
 }
 
 // The checksum of bytes, to the line's end.
-pub fn checksum(s: &[u8]) {
-    word(b" ");
-    io::print_hex(STDOUT_FILENO, fcs::checksum(s) as u64, 4);
-    end();
+pub fn checksum(stdout: Stdout, s: &[u8]) {
+    word(stdout, b" ");
+    let sum = fcs::checksum(s);
+    let _ = print!(stdout; "{sum:04x}");
+    end(stdout);
 }
 
 // The decimal number of `s` that has `wanted` others before it, up to `most`; 0 if there is none. Exact up to ten digits, and

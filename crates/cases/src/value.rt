@@ -4,6 +4,7 @@ use answers::Said;
 use filing::{RECORDS, Record};
 use panel::Panel;
 use session::sizes::{FAULTS, LIST, REPLY, SAID, STATE};
+use std::io::Stdout;
 
 // What the call says, and the register after it.
 #[derive(Clone, Copy)]
@@ -62,7 +63,7 @@ fn panel_in(b: Buffers) -> Panel {
 }
 
 // The call, from the bytes and back to them, with a line for it.
-pub fn line(b: Buffers, piece: &[u8]) -> Buffers {
+pub fn line(stdout: Stdout, b: Buffers, piece: &[u8]) -> Buffers {
     let mut picture = b.picture;
     let font = b.font;
     let mut list = [0u8; LIST];
@@ -78,6 +79,6 @@ pub fn line(b: Buffers, piece: &[u8]) -> Buffers {
     );
     let mut t = written(b, c);
     t.picture = picture;
-    crate::show::line(&t.said, &reply, &list);
+    crate::show::line(stdout, &t.said, &reply, &list);
     t
 }

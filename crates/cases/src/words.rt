@@ -1,5 +1,6 @@
 // The words of a script, each with its number.
 use crate::text::until;
+use std::io::Stdout;
 
 // A case begins, or a value or a code's rows are set, and nothing is printed.
 pub const HEADING: usize = 0;
@@ -89,7 +90,7 @@ fn place(word: &[u8], list: &[u8]) -> usize {
 }
 
 // The number of the word that a line begins with, after printing it where what is printed begins so.
-pub fn number(line: &[u8]) -> usize {
+pub fn number(stdout: Stdout, line: &[u8]) -> usize {
     let end = until(line, 0, b' ');
     let word = &line[..end];
     let n = place(
@@ -97,7 +98,7 @@ pub fn number(line: &[u8]) -> usize {
         b"# set unfiled count font line value faults cuts press release lend high low sizes power state cell picture scan compose sum ask text read next cells tape fill mark ",
     );
     if (PRESS <= n) & (n < TAPE) {
-        crate::text::word(word);
+        crate::text::word(stdout, word);
     }
     n
 }

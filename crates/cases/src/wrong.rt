@@ -7,10 +7,11 @@ use crate::text::decimal;
 use registerbytes::RECORD;
 use session::sizes::{SAID, STATE};
 use statebytes::places::{BOOT, CONTRAST, COUNT, DOWN, LIVE, SETS, STYLE, UNFILED};
+use std::io::Stdout;
 
 // One line call on a piece of zeros, which hold no packet; the line tells, in order, the sizes of the piece, the picture, the
 // font, the list, the reply buffer and the register.
-pub fn sizes(line: &[u8], state: [u8; STATE]) -> [u8; STATE] {
+pub fn sizes(stdout: Stdout, line: &[u8], state: [u8; STATE]) -> [u8; STATE] {
     let mut t = state;
     let piece = [0u8; 4097];
     let mut screen = [0u8; 641];
@@ -35,19 +36,19 @@ pub fn sizes(line: &[u8], state: [u8; STATE]) -> [u8; STATE] {
         &mut faults[..f],
         &mut said,
     );
-    crate::show::call(&said);
+    crate::show::call(stdout, &said);
     t
 }
 
-fn drawn(screen: &[u8; 641]) {
-    crate::text::word(b"picture");
-    crate::text::checksum(screen);
-    crate::text::word(b"state");
+fn drawn(stdout: Stdout, screen: &[u8; 641]) {
+    crate::text::word(stdout, b"picture");
+    crate::text::checksum(stdout, screen);
+    crate::text::word(stdout, b"state");
 }
 
 // Power-on with a picture and a font of the sizes that the line tells; the picture's checksum and the state show that a
 // refused one draws nothing and still returns the power-on state.
-pub fn power(line: &[u8]) {
+pub fn power(stdout: Stdout, line: &[u8]) {
     let b = decimal(line, 0, 641);
     let c = decimal(line, 1, 2049);
     let mut screen = [170u8; 641];
@@ -55,13 +56,13 @@ pub fn power(line: &[u8]) {
     let mut state = [0u8; STATE];
     let mut said = [0u8; SAID];
     naupelys::naupelys_power_on(&mut state, &mut screen[..b], &font[..c], &mut said);
-    crate::show::call(&said);
-    drawn(&screen);
-    crate::show::state(&state);
+    crate::show::call(stdout, &said);
+    drawn(stdout, &screen);
+    crate::show::state(stdout, &state);
 }
 
 // A key pressed with a reply buffer of the size that stands behind the key.
-pub fn lend(line: &[u8], state: [u8; STATE]) -> [u8; STATE] {
+pub fn lend(stdout: Stdout, line: &[u8], state: [u8; STATE]) -> [u8; STATE] {
     let mut t = state;
     let mut reply = [0u8; 27];
     let mut said = [0u8; SAID];
@@ -73,19 +74,19 @@ pub fn lend(line: &[u8], state: [u8; STATE]) -> [u8; STATE] {
         &mut reply[..size],
         &mut said,
     );
-    crate::show::call(&said);
+    crate::show::call(stdout, &said);
     t
 }
 
 // The cells of a glyph in a list of the size that stands behind the glyph. What is in the list's room before, 170, shows which of
 // its bytes are written.
-pub fn cells(line: &[u8], state: [u8; STATE]) {
+pub fn cells(stdout: Stdout, line: &[u8], state: [u8; STATE]) {
     let mut room = [170u8; ROOM];
     let mut said = [0u8; SAID];
     let glyph = decimal(line, 0, 4294967295) as u32;
     let size = decimal(line, 1, ROOM);
     naupelys::naupelys_symbol_cells(&state, glyph, &mut room[..size], &mut said);
-    crate::show::cells(&said, &room);
+    crate::show::cells(stdout, &said, &room);
 }
 
 // One value of the state set without a command, by the first letter behind "set": the live settings' contrast, the boot
