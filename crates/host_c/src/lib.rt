@@ -1,6 +1,7 @@
 // The host's calls for C, by the names of include/naupelys_host.h: each is the library's, with its promise.
 #![tactic(auto)]
 
+ghost use Rattle.commands.specs.declared.Command.{Command};
 ghost use Rattle.host.specs.Calls.{ComposeBytes, CommandBytes};
 ghost use Rattle.std.specs.Prelude.{[]};
 ghost use Rattle.hostreads.specs.Reads.{ReadBytes};
