@@ -1,4 +1,0 @@
-use Rattle.hostdials.proofs.naupelys_compose_style.Goals as goal
-
-pub returns : goal.returns
-returns c = c.command.ensures
