@@ -1,4 +1,0 @@
-use Rattle.hostmodule.proofs.naupelys_compose_reboot.Goals as goal
-
-pub returns : goal.returns
-returns c = c.command.ensures
