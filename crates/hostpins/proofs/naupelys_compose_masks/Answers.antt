@@ -1,4 +1,0 @@
-use Rattle.hostpins.proofs.naupelys_compose_masks.Goals as goal
-
-pub returns : goal.returns
-returns c = c.command.ensures
