@@ -2,7 +2,7 @@
 // inside a frame at the top left of the screen.
 ghost use Rattle.std.specs.Prelude.{◌<◌, ◌≤◌};
 
-use libc::STDERR_FILENO;
+use std::io;
 
 // Four lines of a cell, from the top: the upper half or the lower.
 #[derive(Clone, Copy)]
@@ -123,12 +123,12 @@ fn with_cells(out: &mut [u8], picture: &[u8], list: &[u8], cells: usize)
 }
 
 // The listed cells as the picture has them, written at once, and the cursor parked below the frame.
-pub fn draw(picture: &[u8], list: &[u8], listed: usize) {
+pub fn draw<E: Print>(errors: &E, picture: &[u8], list: &[u8], listed: usize) -> io::Result<()> {
     let cells = lists::at_most(listed, 80);
     let mut out = [0u8; SCREEN];
     with_cells(&mut out, picture, list, cells);
     lists::paste(&mut out, cells * CELL, b"\x1b[11;01H");
-    crate::put(STDERR_FILENO, &out, cells * CELL + PARKING);
+    crate::put(errors, &out, cells * CELL + PARKING)
 }
 
 fn every_cell() -> [u8; 80] {
@@ -141,47 +141,47 @@ fn every_cell() -> [u8; 80] {
     list
 }
 
-fn stroke() {
-    io::write_all(STDERR_FILENO, b"\xe2\x94\x80");
+fn stroke<E: Print>(errors: &E) {
+    let _ = errors.write_all(b"\xe2\x94\x80");
 }
 
 // Sixty horizontal strokes of the frame.
-fn strokes() {
+fn strokes<E: Print>(errors: &E) {
     for _ in 0..60usize {
-        stroke();
+        stroke(errors);
     }
 }
 
 // The frame's left and right sides beside a row of characters.
-fn sides(row: u8) {
+fn sides<E: Print>(errors: &E, row: u8) {
     let t = tens(row);
     let o = ones(row);
-    io::write_all(STDERR_FILENO, &[27, b'[', t, o]);
-    io::write_all(STDERR_FILENO, b";01H\xe2\x94\x82");
-    io::write_all(STDERR_FILENO, &[27, b'[', t, o]);
-    io::write_all(STDERR_FILENO, b";62H\xe2\x94\x82");
+    let _ = errors.write_all(&[27, b'[', t, o]);
+    let _ = errors.write_all(b";01H\xe2\x94\x82");
+    let _ = errors.write_all(&[27, b'[', t, o]);
+    let _ = errors.write_all(b";62H\xe2\x94\x82");
 }
 
-fn all_sides() {
+fn all_sides<E: Print>(errors: &E) {
     for row in 2..10 {
-        sides(row);
+        sides(errors, row);
     }
 }
 
 // The screen cleared and the frame around the glass.
-fn frame() {
-    io::write_all(STDERR_FILENO, b"\x1b[2J\x1b[01;01H\xe2\x94\x8c");
-    strokes();
-    io::write_all(STDERR_FILENO, b"\xe2\x94\x90");
-    all_sides();
-    io::write_all(STDERR_FILENO, b"\x1b[10;01H\xe2\x94\x94");
-    strokes();
-    io::write_all(STDERR_FILENO, b"\xe2\x94\x98");
+fn frame<E: Print>(errors: &E) {
+    let _ = errors.write_all(b"\x1b[2J\x1b[01;01H\xe2\x94\x8c");
+    strokes(errors);
+    let _ = errors.write_all(b"\xe2\x94\x90");
+    all_sides(errors);
+    let _ = errors.write_all(b"\x1b[10;01H\xe2\x94\x94");
+    strokes(errors);
+    let _ = errors.write_all(b"\xe2\x94\x98");
 }
 
 // The whole glass for the first time.
-pub fn draw_first(picture: &[u8]) {
-    frame();
+pub fn draw_first<E: Print>(errors: &E, picture: &[u8]) -> io::Result<()> {
+    frame(errors);
     let list = every_cell();
-    draw(picture, &list, 80);
+    draw(errors, picture, &list, 80)
 }

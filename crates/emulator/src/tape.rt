@@ -1,21 +1,23 @@
 // The recording that `record FILE` asks for, written as the line goes. What the host sent since nothing was held last is an entry, and
 // the replies to it are the next: so no packet is cut over two entries.
+use crate::faults::{fail, say};
 use kept::Session;
-use libc::STDERR_FILENO;
 use recorder::room;
 use recordings::{ENTRIES, HEADER, HOST, LONGEST, PANEL};
 use session::sizes::{PIECE, REPLY, STATE};
 use statebytes::places::COUNT;
+use std::fs::File;
+use std::io;
+use std::io::Write;
+use std::rt::Files;
 
 // Room for an entry that is put together.
 pub const ENTRY: usize = LONGEST;
 
-// Whether the line is recorded, and where; how many bytes the file has; how many of the host's and of the panel's wait to be
-// written.
+// Whether the line is recorded; how many bytes the file has; how many of the host's and of the panel's wait to be written.
 #[derive(Clone, Copy)]
 pub struct Tape {
     pub on: bool,
-    pub file: i32,
     pub size: usize,
     pub host: usize,
     pub panel: usize,
@@ -24,57 +26,82 @@ pub struct Tape {
 pub fn none() -> Tape {
     Tape {
         on: false,
-        file: 0,
         size: 0,
         host: 0,
         panel: 0,
     }
 }
 
-fn without(t: Tape) -> Tape {
-    libc::close(t.file);
+// The file is closed.
+fn without<W: Drop>(file: &mut Option<W>, t: Tape) -> Tape {
+    *file = None;
     Tape { on: false, ..t }
 }
 
 // The file cannot be written: this is told, and the line goes on without it.
-fn failed(t: Tape) -> Tape {
-    os::fail(b"emulator: the recording cannot be written");
-    without(t)
+fn failed<R: Eprint + AllocGlobal, W: Drop>(
+    rt: &R,
+    file: &mut Option<W>,
+    t: Tape,
+    why: io::Error,
+) -> Tape {
+    fail(rt, "emulator: the recording cannot be written", why);
+    without(file, t)
 }
 
 // An entry would not fit: this is told, and the line goes on without it.
-fn full(t: Tape) -> Tape {
-    io::write_all(
-        STDERR_FILENO,
-        b"emulator: the recording is full, and the line goes on without it\n",
+fn full<R: Eprint, W: Drop>(rt: &R, file: &mut Option<W>, t: Tape) -> Tape {
+    say(
+        rt,
+        "emulator: the recording is full, and the line goes on without it",
     );
-    without(t)
+    without(file, t)
+}
+
+// Writes the front of a buffer to the file.
+fn put<W: Write>(file: &mut Option<W>, out: &[u8], length: usize) -> io::Result<()> {
+    let n = lists::at_most(length, out.len());
+    match file {
+        Some(open) => open.write_all(&out[..n]),
+        None => Ok(()),
+    }
 }
 
 // A recording without entries, in a file of that name. Where there can be none, it is not on.
-pub fn begin(name: &[u8]) -> Tape {
-    let file = os::open_overwrite(name);
-    if file < 0 {
-        os::fail(b"emulator: the recording cannot be opened");
-        return none();
+pub fn begin<R: Files + Eprint + AllocGlobal>(
+    rt: &R,
+    name: &str,
+    file: &mut Option<R::File>,
+) -> Tape {
+    match File::create(rt, name) {
+        Ok(made) => *file = Some(made),
+        Err(why) => {
+            fail(rt, "emulator: the recording cannot be opened", why);
+            return none();
+        }
     }
     let t = Tape {
         on: true,
-        file,
         size: ENTRIES,
         host: 0,
         panel: 0,
     };
     let start = recorder::start();
-    if crate::put(file, &start, ENTRIES) {
-        t
-    } else {
-        failed(t)
+    match put(file, &start, ENTRIES) {
+        Ok(()) => t,
+        Err(why) => failed(rt, file, t, why),
     }
 }
 
 // One entry of so many bytes, which stand behind the room of its header. Of no bytes there is none.
-fn with_entry(t: Tape, direction: u8, entry: &mut [u8; ENTRY], n: usize) -> Tape {
+fn with_entry<R: Eprint + AllocGlobal, W: Write + Drop>(
+    rt: &R,
+    file: &mut Option<W>,
+    t: Tape,
+    direction: u8,
+    entry: &mut [u8; ENTRY],
+    n: usize,
+) -> Tape {
     if !t.on {
         return t;
     }
@@ -82,22 +109,27 @@ fn with_entry(t: Tape, direction: u8, entry: &mut [u8; ENTRY], n: usize) -> Tape
         return t;
     }
     if room(t.size) < n {
-        return full(t);
+        return full(rt, file, t);
     }
     let size = t.size + HEADER + n;
     let header = recorder::header(direction, n);
     lists::paste(entry, 0, &header);
-    if crate::put(t.file, entry, HEADER + n) {
-        Tape { size, ..t }
-    } else {
-        failed(t)
+    match put(file, entry, HEADER + n) {
+        Ok(()) => Tape { size, ..t },
+        Err(why) => failed(rt, file, t, why),
     }
 }
 
 // What waits is written: an entry of the host, and behind it one of the panel.
-pub fn written(t: Tape, host: &mut [u8; ENTRY], panel: &mut [u8; ENTRY]) -> Tape {
-    let u = with_entry(t, HOST, host, t.host);
-    let v = with_entry(u, PANEL, panel, t.panel);
+pub fn written<R: Eprint + AllocGlobal, W: Write + Drop>(
+    rt: &R,
+    file: &mut Option<W>,
+    t: Tape,
+    host: &mut [u8; ENTRY],
+    panel: &mut [u8; ENTRY],
+) -> Tape {
+    let u = with_entry(rt, file, t, HOST, host, t.host);
+    let v = with_entry(rt, file, u, PANEL, panel, t.panel);
     Tape {
         host: 0,
         panel: 0,
@@ -119,7 +151,9 @@ fn replied(s: Session, reply: &[u8]) -> &[u8] {
 }
 
 // The bytes of a call behind those that wait, where there is room for both.
-fn with_bytes(
+fn with_bytes<R: Eprint, W: Drop>(
+    rt: &R,
+    file: &mut Option<W>,
     t: Tape,
     heard: &[u8],
     said: &[u8],
@@ -128,10 +162,10 @@ fn with_bytes(
 ) -> Tape {
     let most = room(t.size);
     if most < t.host || most - t.host < heard.len() {
-        return full(t);
+        return full(rt, file, t);
     }
     if most < t.panel || most - t.panel < said.len() {
-        return full(t);
+        return full(rt, file, t);
     }
     let of_host = t.host + heard.len();
     let of_panel = t.panel + said.len();
@@ -145,7 +179,9 @@ fn with_bytes(
 }
 
 // A call more: what it took and what it replied waits, until nothing is held.
-pub fn with_call(
+pub fn with_call<R: Eprint + AllocGlobal, W: Write + Drop>(
+    rt: &R,
+    file: &mut Option<W>,
     t: Tape,
     s: Session,
     piece: &[u8; PIECE],
@@ -157,9 +193,9 @@ pub fn with_call(
     if !t.on | s.over {
         return t;
     }
-    let u = with_bytes(t, taken(s, piece), replied(s, reply), host, panel);
+    let u = with_bytes(rt, file, t, taken(s, piece), replied(s, reply), host, panel);
     if 0 < state[COUNT] {
         return u;
     }
-    written(u, host, panel)
+    written(rt, file, u, host, panel)
 }

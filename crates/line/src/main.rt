@@ -4,17 +4,22 @@
 use kept::{Session, going};
 use session::sizes::{FAULTS, FONT, LIST, PICTURE, PIECE, REPLY, SAID, STATE};
 use statebytes::places::COUNT;
-use std::io::Read;
+use std::io::{ErrorKind, Read};
 use tally::WAITING;
 
-// Writes the front of a buffer; whether all of it was written. A failed write is told on standard error.
+// Writes the front of a buffer; whether all of it was written. A failed write is told on standard error, but for one that nobody
+// reads, which ends the program without a word.
 fn put<R: Print + Eprint>(rt: &R, out: &[u8], length: usize) -> bool {
     let n = lists::at_most(length, out.len());
-    let done = rt.write_all(&out[..n]).is_ok();
-    if !done {
-        say(rt, "line: standard output cannot be written");
+    match rt.write_all(&out[..n]) {
+        Ok(()) => true,
+        Err(why) => {
+            if why.kind() != ErrorKind::BrokenPipe {
+                say(rt, "line: standard output cannot be written");
+            }
+            false
+        }
     }
-    done
 }
 
 // A line on standard error. Where that cannot be written either, nobody can be told.

@@ -3,7 +3,8 @@
 #![tactic(auto)]
 
 use recordings::{AHEAD, ENTRIES, Fault, Found, PACKET};
-use std::io::Read;
+use std::io;
+use std::io::{ErrorKind, Read};
 use wording::filled;
 
 // Room for a line.
@@ -53,10 +54,18 @@ fn input<R: Read>(reader: &mut R, room: &mut [u8]) -> Got {
     }
 }
 
-// Writes the front of a buffer to a stream; whether all of it was written.
-fn put<P: Print>(stream: &P, out: &[u8], length: usize) -> bool {
+// Writes the front of a buffer to a stream.
+fn put<P: Print>(stream: &P, out: &[u8], length: usize) -> io::Result<()> {
     let n = lists::at_most(length, out.len());
-    stream.write_all(&out[..n]).is_ok()
+    stream.write_all(&out[..n])
+}
+
+// Whether a write failed because nobody reads, which ends the program without a word.
+fn is_unread(written: &io::Result<()>) -> bool {
+    match written {
+        Ok(()) => false,
+        Err(why) => why.kind() == ErrorKind::BrokenPipe,
+    }
 }
 
 // A line on standard error. Where that cannot be written either, nobody can be told.
@@ -65,12 +74,12 @@ fn say<R: Eprint>(rt: &R, words: &str) {
 }
 
 // A line of standard output. A failed write is told on standard error.
-fn line<R: Print + Eprint>(rt: &R, out: &[u8], length: usize) -> bool {
-    let done = put(rt, out, length);
-    if !done {
+fn line<R: Print + Eprint>(rt: &R, out: &[u8], length: usize) -> io::Result<()> {
+    let written = put(rt, out, length);
+    if written.is_err() && !is_unread(&written) {
         say(rt, "recording: standard output cannot be written");
     }
-    done
+    written
 }
 
 // One more, up to the largest number.
@@ -99,7 +108,7 @@ fn told<R: Print + Eprint>(rt: &R, recording: &[u8], f: Found, s: Listed) -> Lis
         f.kind,
         content,
     );
-    let lost = !line(rt, &out, n);
+    let lost = line(rt, &out, n).is_err();
     Listed { packets, lost, ..s }
 }
 
@@ -144,7 +153,7 @@ fn entries<R: Print + Eprint>(rt: &R, recording: &[u8]) -> Listed {
 // What a recording that is fine holds.
 fn list<R: Print + Eprint>(rt: &R, recording: &[u8]) {
     let heading = b"packet entry offset type length data\n";
-    if !line(rt, heading, heading.len()) {
+    if line(rt, heading, heading.len()).is_err() {
         return;
     }
     let s = entries(rt, recording);
@@ -153,7 +162,7 @@ fn list<R: Print + Eprint>(rt: &R, recording: &[u8]) {
     }
     let mut out = [0u8; LINE];
     let n = listing::totals(&mut out, s.packets, s.entries, recording.len() as u64);
-    line(rt, &out, n);
+    let _ = line(rt, &out, n);
 }
 
 // What is wrong, in words, and at which byte.
@@ -176,9 +185,11 @@ fn words(out: &mut [u8], number: u8, place: u64) -> usize {
 fn refuse<R: Print + Eprint, E: Print>(rt: &R, errors: &E, fault: Fault) {
     let mut out = [0u8; LINE];
     let n = listing::refusal(&mut out, fault.number);
-    line(rt, &out, n);
+    if is_unread(&line(rt, &out, n)) {
+        return;
+    }
     let k = words(&mut out, fault.number, fault.place as u64);
-    put(errors, &out, k);
+    let _ = put(errors, &out, k);
 }
 
 // The lines of a recording, or of its refusal.

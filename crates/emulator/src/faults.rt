@@ -1,0 +1,35 @@
+// What is told on standard error. Where that cannot be written, nobody can be told.
+use std::io;
+use std::io::ErrorKind;
+
+// A line of words.
+pub fn say<R: Eprint>(rt: &R, words: &str) {
+    let _ = rt.eprintln(words);
+}
+
+// Whether a write failed because nobody reads, which ends the program without a word.
+pub fn is_unread(written: &io::Result<()>) -> bool {
+    match written {
+        Ok(()) => false,
+        Err(why) => why.kind() == ErrorKind::BrokenPipe,
+    }
+}
+
+// The system's words for an error, without its number.
+fn reason(text: &str) -> &str {
+    match text.split_once(" (os error ") {
+        Some((words, _)) => words,
+        None => text,
+    }
+}
+
+// What failed, a colon and why.
+pub fn fail<R: Eprint + AllocGlobal>(rt: &R, what: &str, why: io::Error) {
+    let _ = match why.to_string(rt.alloc()) {
+        Ok(text) => {
+            let words = reason(&text);
+            eprintln!(rt; "{what}: {words}")
+        }
+        Err(_) => eprintln!(rt; "{what}: {why}"),
+    };
+}
