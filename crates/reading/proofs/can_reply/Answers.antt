@@ -1,5 +1,5 @@
+use borrow.Author.Rules.{rules}
 use mathlib.Core.Path.{◌∙◌}
-use borrow.Author.Tests.{ne_eqb}
 use Rattle.lists.specs.Tests.{when◌then◌else◌}
 use Rattle.reading.specs.Reading.{can_reply}
 use Rattle.reading.proofs.can_reply.Goals as goal
@@ -31,6 +31,4 @@ returns-in-35 c = c.is_pin.ensures ∙ rw c.in-35.is
 -- no code of the arms above
 pub returns-in_default : goal.returns-in_default
 unfolding can_reply when◌then◌else◌
-returns-in_default c =
-    let r = c.in_default.in_default-own.rest in
-    rw (c.look-row.ensures, ne_eqb _ 0 r.0.0.0.0.0.1, ne_eqb _ 1 r.0.0.0.0.1, ne_eqb _ 3 r.0.0.0.1, ne_eqb _ 10 r.0.0.1, ne_eqb _ 24 r.0.1, ne_eqb _ 35 r.1)
+returns-in_default c = search rules

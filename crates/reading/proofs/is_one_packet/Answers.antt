@@ -1,28 +1,11 @@
-use Prim.Native.Nat.{ℕ}
-use mathlib.Core.Path.{◌≡◌, refl, sym, ◌∙◌}
-use mathlib.Core.Bool.{false}
-use mathlib.Core.List.{List, [], ◌∷◌}
-use types.Run.{OneOf, miss}
-use borrow.Enum.Refused.{opened}
-use denote.Enum.Declared.{tag_of}
-use Rattle.packets.specs.declared.Judgement.{Judgement}
-use Rattle.packets.specs.declared.Judgement.TheVariants.{Wait, LongLength, WrongChecksum, Packet}
-use Rattle.packets.specs.contracts.Judgement.{the_type}
+use borrow.Author.Rules.{rules}
+use mathlib.Core.Path.{refl, sym, ◌∙◌}
+use Rattle.packets.specs.declared.Judgement.TheVariants.{Packet}
 use Rattle.packets.proofs.Judgements.{see}
-use Rattle.reading.specs.Reading.{is_packet_found, is_one_packet}
+use Rattle.reading.specs.Reading.{is_one_packet}
 use Rattle.reading.proofs.OnePacket.{found_size}
 use native.Mathlib.Omega.{arith}
 use Rattle.reading.proofs.is_one_packet.Goals as goal
-
--- the judgements that the last arm of the match takes
-abbrev rest : List ℕ
-rest = 0 ∷ 1 ∷ 2 ∷ []
-
-others : (j : Judgement) → OneOf rest (tag_of the_type j) → is_packet_found j ≡ false
-others Wait k = refl
-others LongLength k = refl
-others WrongChecksum k = refl
-others Packet k = absurd (miss rest 3 tt k)
 
 pub bounds-bytes-1 : goal.bounds-bytes-1
 bounds-bytes-1 c =
@@ -35,4 +18,4 @@ returns-in-Packet c = rw (← c.judge.ensures, c.in-Packet.is, c.wide.ensures.0)
 
 pub returns-in_default : goal.returns-in_default
 unfolding is_one_packet
-returns-in_default c = rw (← c.judge.ensures, others _ (opened c.in_default.in_default-own.keys2))
+returns-in_default c = search rules
