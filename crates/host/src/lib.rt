@@ -37,12 +37,7 @@ fn told(said: &mut [u8; SAID], r: Composing) -> u8
 }
 
 // The packet of a code and data bytes.
-pub fn naupelys_compose(
-    code: u32,
-    data: &[u8],
-    packet: &mut [u8],
-    said: &mut [u8; SAID],
-) -> u8
+pub fn naupelys_compose(code: u32, data: &[u8], packet: &mut [u8], said: &mut [u8; SAID]) -> u8
     ensures { ComposeBytes code «data».now packet.old result packet.new said.new }
 {
     let r = composer::compose(packet, code, data);

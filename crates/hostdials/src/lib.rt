@@ -13,21 +13,13 @@ pub fn naupelys_compose_style(style: u8, packet: &mut [u8], said: &mut [u8; SAID
     host::command(Command::SetStyle { style }, &[], packet, said)
 }
 
-pub fn naupelys_compose_contrast(
-    contrast: u8,
-    packet: &mut [u8],
-    said: &mut [u8; SAID],
-) -> u8
+pub fn naupelys_compose_contrast(contrast: u8, packet: &mut [u8], said: &mut [u8; SAID]) -> u8
     ensures { CommandBytes (Command.SetContrast contrast) [] packet.old result packet.new said.new }
 {
     host::command(Command::SetContrast { contrast }, &[], packet, said)
 }
 
-pub fn naupelys_compose_backlight(
-    backlight: u8,
-    packet: &mut [u8],
-    said: &mut [u8; SAID],
-) -> u8
+pub fn naupelys_compose_backlight(backlight: u8, packet: &mut [u8], said: &mut [u8; SAID]) -> u8
     ensures { CommandBytes (Command.SetBacklight backlight) [] packet.old result packet.new said.new }
 {
     host::command(Command::SetBacklight { backlight }, &[], packet, said)

@@ -13,11 +13,7 @@ pub fn naupelys_compose_ping(data: &[u8], packet: &mut [u8], said: &mut [u8; SAI
     host::command(Command::Ping, data, packet, said)
 }
 
-pub fn naupelys_compose_flash(
-    flash: &[u8],
-    packet: &mut [u8],
-    said: &mut [u8; SAID],
-) -> u8
+pub fn naupelys_compose_flash(flash: &[u8], packet: &mut [u8], said: &mut [u8; SAID]) -> u8
     ensures { CommandBytes Command.WriteFlash flash.now packet.old result packet.new said.new }
 {
     host::command(Command::WriteFlash, flash, packet, said)
@@ -29,11 +25,7 @@ pub fn naupelys_compose_reboot(packet: &mut [u8], said: &mut [u8; SAID]) -> u8
     host::command(Command::Reboot, &[], packet, said)
 }
 
-pub fn naupelys_compose_memory(
-    address: u8,
-    packet: &mut [u8],
-    said: &mut [u8; SAID],
-) -> u8
+pub fn naupelys_compose_memory(address: u8, packet: &mut [u8], said: &mut [u8; SAID]) -> u8
     ensures { CommandBytes (Command.ReadMemory address) [] packet.old result packet.new said.new }
 {
     host::command(Command::ReadMemory { address }, &[], packet, said)

@@ -18,12 +18,7 @@ pub fn naupelys_compose_masks(
     host::command(Command::SetMasks { press, release }, &[], packet, said)
 }
 
-pub fn naupelys_compose_pin(
-    pin: u8,
-    level: u8,
-    packet: &mut [u8],
-    said: &mut [u8; SAID],
-) -> u8
+pub fn naupelys_compose_pin(pin: u8, level: u8, packet: &mut [u8], said: &mut [u8; SAID]) -> u8
     ensures { CommandBytes (Command.SetPin pin level) [] packet.old result packet.new said.new }
 {
     host::command(Command::SetPin { pin, level }, &[], packet, said)

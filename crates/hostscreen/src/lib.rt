@@ -18,12 +18,7 @@ pub fn naupelys_compose_glyph(
     host::command(Command::SetGlyph { index }, rows, packet, said)
 }
 
-pub fn naupelys_compose_cursor(
-    column: u8,
-    row: u8,
-    packet: &mut [u8],
-    said: &mut [u8; SAID],
-) -> u8
+pub fn naupelys_compose_cursor(column: u8, row: u8, packet: &mut [u8], said: &mut [u8; SAID]) -> u8
     ensures { CommandBytes (Command.SetCursor column row) [] packet.old result packet.new said.new }
 {
     host::command(Command::SetCursor { column, row }, &[], packet, said)

@@ -106,12 +106,7 @@ pub fn naupelys_pin(state: &mut [u8], pin: u32, high: bool, said: &mut [u8; SAID
 }
 
 // The cells that a glyph is on. The state is only read.
-pub fn naupelys_symbol_cells(
-    state: &[u8],
-    glyph: u32,
-    list: &mut [u8],
-    said: &mut [u8; SAID],
-) -> u8
+pub fn naupelys_symbol_cells(state: &[u8], glyph: u32, list: &mut [u8], said: &mut [u8; SAID]) -> u8
     ensures { CellsBytes state.now glyph list.old result list.new said.new }
 {
     let s = symbols::cells(panel_in(state), glyph, list);
