@@ -1,12 +1,11 @@
+use borrow.Author.Rules.{rules}
 use Prim.Native.Nat.{ℕ, ◌≤◌}
-use mathlib.Core.Path.{◌≡◌, refl, sym, ◌∙◌, ap}
-use mathlib.Core.Bool.{true, false≢true}
+use mathlib.Core.Path.{◌≡◌, refl}
+use mathlib.Core.Bool.{true}
 use native.Mathlib.Omega.{arith}
 use borrow.Author.Tests.{eq-eqb, ne_eqb, le-leb, leb-true}
 use Rattle.lists.specs.Tests.{when◌then◌else◌, ◌≤?◌, ◌=?◌}
-use Rattle.table.specs.declared.Row.{Row}
 use Rattle.table.specs.Table.{table, look_up}
-use Rattle.table.proofs.Rows.{no_row}
 use Rattle.commands.specs.Commands.{form_of}
 use Rattle.commandreads.specs.Backwards.{first_with}
 use Rattle.commandreads.proofs.with_code.Goals as goal
@@ -34,7 +33,8 @@ returns-else-n-eq2 c =
 
 -- no row of the table has another code
 pub returns-in_default : goal.returns-in_default
-returns-in_default c = absurd (false≢true (sym (ap (λ (r : Row). r.known) (no_row Unit table c.args.code c.in_default.in_default-own.rest).0) ∙ c.requires.0))
+unfolding look_up when◌then◌else◌
+returns-in_default c = search rules
 
 pub returns-in-0 : goal.returns-in-0
 unfolding first_with form_of look_up when◌then◌else◌

@@ -1,7 +1,7 @@
-use mathlib.Core.Path.{sym, ◌∙◌}
+use borrow.Author.Rules.{rules}
+use mathlib.Core.Path.{◌∙◌}
 use Rattle.lists.specs.Tests.{when◌then◌else◌}
-use Rattle.table.specs.Table.{table, look_up}
-use Rattle.table.proofs.Rows.{no_row}
+use Rattle.table.specs.Table.{look_up}
 use Rattle.table.proofs.look.Goals as goal
 
 pub returns-in-0 : goal.returns-in-0
@@ -77,4 +77,5 @@ unfolding look_up when◌then◌else◌
 returns-in-35 c = c.of-in-35.ensures ∙ rw c.in-35.is
 
 pub returns-in_default : goal.returns-in_default
-returns-in_default c = sym (no_row Unit table c.args.code c.in_default.in_default-own.rest).0
+unfolding look_up when◌then◌else◌
+returns-in_default c = search rules
