@@ -9,7 +9,7 @@ mod input;
 mod tape;
 
 use faults::{fail, is_unread, say};
-use input::Heard;
+use input::HostInput;
 use kept::{Session, going};
 use session::sizes::{FAULTS, FONT, LIST, PICTURE, PIECE, REPLY, SAID, STATE};
 use std::env::{Env, FillError};
@@ -120,7 +120,7 @@ fn run<R: Print + Eprint + AllocGlobal, E: Print, I: Read + Drop, W: Write + Dro
     if drawn && is_unread(&glass::draw_first(errors, &picture)) {
         return;
     }
-    let mut heard = Heard { input, fault: None };
+    let mut heard = HostInput { input, fault: None };
     let mut piece = [0u8; PIECE];
     let mut list = [0u8; LIST];
     let mut reply = [0u8; REPLY];
