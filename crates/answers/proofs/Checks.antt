@@ -4,13 +4,12 @@ use mathlib.Core.Path.{◌≡◌, refl, sym, ◌∙◌, ap}
 use mathlib.Core.Bool.{Bool, true, false}
 use mathlib.Core.List.{List, [], ◌∷◌, ◌++◌}
 use native.Mathlib.Omega.{arith}
+use Rattle.std.specs.Prelude.{Result, Ok, Err, OnOk}
 use Rattle.lists.specs.Tests.{when◌then◌else◌}
 use Rattle.lists.proofs.Laws.{when_true, when_false}
 use Rattle.panel.specs.declared.Panel.{Panel}
 use Rattle.answers.specs.declared.Check.{Check}
 use Rattle.answers.specs.declared.Check.TheVariants.{StateRange, PieceSize, PictureSize, FontSize, ListSize, ReplySize, RegisterSize, KeyOrPin, KeyAsTold, GlyphNumber}
-use Rattle.answers.specs.declared.Checked.{Checked}
-use Rattle.answers.specs.declared.Checked.TheVariants.{Passes, Fails}
 use Rattle.answers.specs.declared.Answer.TheVariants.{CallRefused}
 use Rattle.answers.specs.declared.Said.{Said}
 use Rattle.answers.specs.Answer.{check_number, numbers_of, refused_call}
@@ -44,35 +43,33 @@ either_way (test false c ∷ tests) f g = f c (here refl)
 -- the code folds the checks from the first to the last: one more behind those that are decided
 pub also_decided : (tests : List Test) (t : Bool) (c : Check) → also_checked (checked_by tests) t c ≡ checked_by (tests ++ test t c ∷ [])
 unfolding decided also_checked when◌then◌else◌
-also_decided [] t c = refl
+also_decided [] true c = refl
+also_decided [] false c = refl
 also_decided (test true d ∷ tests) t c = also_decided tests t c
 also_decided (test false d ∷ tests) t c = refl
 
-pub first_one : (t : Bool) (c : Check) {r : Checked} → Checks Passes t c r → r ≡ checked_by (test t c ∷ [])
-unfolding decided also_checked
-first_one t c e = e
+pub first_one : (t : Bool) (c : Check) {r : Result (Unit {0}) Check} → Checks (Ok tt) t c r → r ≡ checked_by (test t c ∷ [])
+unfolding decided
+first_one t c e = e ∙ also_decided [] t c
 
-pub one_more : (tests : List Test) (t : Bool) (c : Check) {s r : Checked} → s ≡ checked_by tests → Checks s t c r → r ≡ checked_by (tests ++ test t c ∷ [])
-one_more tests t c e f = f ∙ ap (λ (s : Checked). also_checked s t c) e ∙ also_decided tests t c
+pub one_more : (tests : List Test) (t : Bool) (c : Check) {s r : Result (Unit {0}) Check} → s ≡ checked_by tests → Checks s t c r → r ≡ checked_by (tests ++ test t c ∷ [])
+one_more tests t c e f = f ∙ ap (λ (s : Result (Unit {0}) Check). also_checked s t c) e ∙ also_decided tests t c
 
 -- how checks that come out one way or the other decide a call
-pub decided_fails {ℓ} : {A : Type ℓ} (tests : List Test) {c : Check} → checked_by tests ≡ Fails c → (refused : Check → A) (accepted : A) → decided tests refused accepted ≡ refused c
+pub decided_fails {ℓ} : {A : Type ℓ} (tests : List Test) {c : Check} → checked_by tests ≡ Err c → (refused : Check → A) (accepted : A) → decided tests refused accepted ≡ refused c
 decided_fails tests {c} e refused accepted =
     either_way tests
-    (λ d f. refused_by f refused accepted ∙ ap refused (same (sym (refused_by f Fails Passes) ∙ e)))
-    (λ p. absurd (apart (sym (accepted_by tests p Fails Passes) ∙ e)))
-  where
-    same : {d : Check} → Fails d ≡ Fails c → d ≡ c
-    same e = cc
+    (λ d f. let same : Err d ≡ Err c = sym (refused_by f Err (Ok tt)) ∙ e in refused_by f refused accepted ∙ ap refused (cc))
+    (λ p. let apart : Ok tt ≡ Err c = sym (accepted_by tests p Err (Ok tt)) ∙ e in cc)
 
-    apart : Passes ≡ Fails c → ⊥
-    apart e = let z : ◌≡◌ {A = ℕ} 0 1 = cc in omega arith
+pub decided_passes : (tests : List Test) → checked_by tests ≡ Ok tt → Pass tests
+decided_passes tests e =
+    either_way tests (λ d f. let apart : Err d ≡ Ok tt = sym (refused_by f Err (Ok tt)) ∙ e in absurd (cc)) (λ p. p)
 
-pub decided_passes : (tests : List Test) → checked_by tests ≡ Passes → Pass tests
-decided_passes tests e = either_way tests (λ d f. absurd (apart (sym (refused_by f Fails Passes) ∙ e))) (λ p. p)
-  where
-    apart : {d : Check} → Fails d ≡ Passes → ⊥
-    apart e = let z : ◌≡◌ {A = ℕ} 0 1 = cc in omega arith
+-- what follows where checks pass holds if they come out so
+pub on_pass : (tests : List Test) {P : Type 0} {r : Result (Unit {0}) Check} → r ≡ checked_by tests → (Pass tests → P) → OnOk r P
+on_pass tests {r = Ok _} e f = f (decided_passes tests (sym e))
+on_pass tests {r = Err c} e f = tt
 
 -- a call refused by number answers 10 or more
 pub from_ten : (c : Check) → 10 ≤ check_number c

@@ -1,11 +1,7 @@
 -- Whether an answer is done, by what a match on it tells.
 use mathlib.Core.Path.{◌≡◌, refl}
 use mathlib.Core.Bool.{true, false}
-use mathlib.Core.List.{[], ◌∷◌}
 use Prim.Native.Nat.{ℕ}
-use types.Run.{OneOf, miss}
-use denote.Enum.Declared.{tag_of}
-use Rattle.answers.specs.contracts.Answer.{the_type}
 use Rattle.answers.specs.declared.Answer.{Answer}
 use Rattle.answers.specs.declared.Answer.TheVariants.{Waiting, Stray, Done, Refused, CallRefused}
 use Rattle.answers.specs.Answer.{is_done}
@@ -14,10 +10,10 @@ pub done_told : {a : Answer} {command : ℕ} → a ≡ Done command → is_done 
 unfolding is_done
 done_told e = rw e
 
-pub not_done : (a : Answer) → OneOf (0 ∷ 1 ∷ 3 ∷ 4 ∷ []) (tag_of the_type a) → is_done a ≡ false
+pub not_done : (a : Answer) → ((command : ℕ) → a ≡ Done command → ⊥) → is_done a ≡ false
 unfolding is_done
 not_done Waiting k = refl
 not_done (Stray command) k = refl
-not_done (Done command) k = absurd (miss (0 ∷ 1 ∷ 3 ∷ 4 ∷ []) 2 tt k)
+not_done (Done command) k = absurd (k command refl)
 not_done (Refused command reason place) k = refl
 not_done (CallRefused check) k = refl

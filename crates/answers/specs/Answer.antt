@@ -1,6 +1,6 @@
 -- What a call says, in document 01's numbers.
-use Rattle.std.specs.Prelude.{ℕ, ◌≡◌, Bool, true, false}
-use Rattle.lists.specs.Tests.{◌=?◌}
+use Rattle.std.specs.Prelude.{ℕ, ◌≡◌, Bool, true, false, Option, Some, None}
+use Rattle.filing.specs.declared.Refusal.{Refusal}
 use Rattle.framing.specs.declared.Counts.{Counts}
 use Rattle.panel.specs.declared.Panel.{Panel}
 use Rattle.panel.specs.State.{line_unfiled}
@@ -11,7 +11,6 @@ use Rattle.answers.specs.declared.Answer.{Answer}
 use Rattle.answers.specs.declared.Answer.TheVariants.{Waiting, Stray, Done, Refused, CallRefused}
 use Rattle.answers.specs.declared.Said.{Said}
 use Rattle.answers.specs.declared.Numbers.{Numbers}
-use Rattle.answers.specs.declared.Filing.{Filing}
 
 -- the table of "What a call says", from 10 on; "27 glyph above 7" (document 02, order 4)
 unfoldable pub check_number : Check → ℕ
@@ -46,12 +45,12 @@ is_done (Refused command reason place) = false
 is_done (CallRefused check) = false
 
 -- "packet refused, with reason and place": what is to be filed
-abbrev pub filing_of : Answer → Filing
-filing_of a =
-    record {
-      refused = (numbers_of a).number =? 4;
-      key = record { command = (numbers_of a).command; reason = (numbers_of a).reason; place = (numbers_of a).place };
-    }
+abbrev pub filing_of : Answer → Option Refusal
+filing_of Waiting = None
+filing_of (Stray command) = None
+filing_of (Done command) = None
+filing_of (Refused command reason place) = Some (record { command = command; reason = reason_number reason; place = place })
+filing_of (CallRefused check) = None
 
 -- "all counts 0"
 abbrev pub no_counts : Counts
@@ -80,12 +79,16 @@ with_unfiled s n =
       listed = s.listed;
     }
 
+-- what a check's conversion to its number promises
+abbrev pub NumbersCheck : Check → ℕ → Type 0
+NumbersCheck check n = n ≡ check_number check
+
 -- what `told` promises
 abbrev pub Tells : Answer → Numbers → Type 0
 Tells a r = r ≡ numbers_of a
 
 -- what `to_file` promises
-abbrev pub Hands : Answer → Filing → Type 0
+abbrev pub Hands : Answer → Option Refusal → Type 0
 Hands a r = r ≡ filing_of a
 
 -- what `nothing_taken` promises

@@ -1,9 +1,7 @@
 -- The checks of a call: "The lowest number that applies is given."
-use Rattle.std.specs.Prelude.{◌≡◌, Bool, List, [], ◌∷◌}
+use Rattle.std.specs.Prelude.{◌≡◌, Bool, true, false, List, [], ◌∷◌, Result, Ok, Err}
 use Rattle.lists.specs.Tests.{when◌then◌else◌}
 use Rattle.answers.specs.declared.Check.{Check}
-use Rattle.answers.specs.declared.Checked.{Checked}
-use Rattle.answers.specs.declared.Checked.TheVariants.{Passes, Fails}
 
 -- whether a check passes
 pub data Test : Type 0 where
@@ -15,14 +13,15 @@ decided [] refused accepted = accepted
 decided (test passes check ∷ tests) refused accepted = when passes then decided tests refused accepted else refused check
 
 -- how they come out
-abbrev pub checked_by : List Test → Checked
-checked_by tests = decided tests Fails Passes
+abbrev pub checked_by : List Test → Result (Unit {0}) Check
+checked_by tests = decided tests Err (Ok tt)
 
 -- one check more behind them
-unfoldable pub also_checked : Checked → Bool → Check → Checked
-also_checked Passes passes check = when passes then Passes else Fails check
-also_checked (Fails first) passes check = Fails first
+unfoldable pub also_checked : Result (Unit {0}) Check → Bool → Check → Result (Unit {0}) Check
+also_checked (Ok _) true check = Ok tt
+also_checked (Ok _) false check = Err check
+also_checked (Err first) passes check = Err first
 
 -- what `also` promises
-abbrev pub Checks : Checked → Bool → Check → Checked → Type 0
+abbrev pub Checks : Result (Unit {0}) Check → Bool → Check → Result (Unit {0}) Check → Type 0
 Checks c passes check r = r ≡ also_checked c passes check

@@ -2,8 +2,7 @@
 #![tactic(auto)]
 
 ghost use Rattle.std.specs.Prelude.{◌≡◌};
-ghost use Rattle.verdict.specs.Verdict.{reason_number};
-ghost use Rattle.answers.specs.Answer.{check_number, Tells, Hands, TakesNothing};
+ghost use Rattle.answers.specs.Answer.{NumbersCheck, Tells, Hands, TakesNothing};
 ghost use Rattle.answers.specs.Checks.{Checks};
 
 use filing::Refusal;
@@ -14,20 +13,21 @@ use verdict::Reason;
 // The checks of the calls, in the order of their numbers.
 #[derive(Clone, Copy)]
 pub enum Check {
-    StateRange,
-    PieceSize,
-    PictureSize,
-    FontSize,
-    ListSize,
-    ReplySize,
-    RegisterSize,
-    KeyOrPin,
-    KeyAsTold,
-    GlyphNumber,
+    StateRange = 10,
+    PieceSize = 11,
+    PictureSize = 12,
+    FontSize = 13,
+    ListSize = 14,
+    ReplySize = 15,
+    RegisterSize = 16,
+    KeyOrPin = 17,
+    KeyAsTold = 18,
+    GlyphNumber = 27,
 }
 
 // A stray, a done command and a refused packet carry the command, a refused packet its reason and place too; a call that is
 // refused by number carries the check that failed.
+// Kept: the three parts of a refusal stand by themselves, as `done_says` and the definitions of a call speak of them.
 #[derive(Clone, Copy)]
 pub enum Answer {
     Waiting,
@@ -36,6 +36,13 @@ pub enum Answer {
     Refused(u8, Reason, u8),
     CallRefused(Check),
 }
+
+// "all counts 0"
+pub const NO_COUNTS: Counts = Counts {
+    taken: 0,
+    dropped: 0,
+    checked: 0,
+};
 
 // The panel after a call, its answer and counts, the reply's length and how many cells were listed.
 #[derive(Clone, Copy)]
@@ -48,6 +55,7 @@ pub struct Said {
 }
 
 // An answer in the paper's numbers, 0 for what it does not have.
+// Kept: these are the numbers that C is told (`Tells`).
 #[derive(Clone, Copy)]
 pub struct Numbers {
     pub number: u8,
@@ -56,34 +64,13 @@ pub struct Numbers {
     pub place: u8,
 }
 
-// Whether an answer is a refused packet, and the key to file it under.
-#[derive(Clone, Copy)]
-pub struct Filing {
-    pub refused: bool,
-    pub key: Refusal,
-}
-
-// How checks come out: all pass, or the first that fails.
-#[derive(Clone, Copy)]
-pub enum Checked {
-    Passes,
-    Fails(Check),
-}
-
 // One check more, which counts where those before it pass.
-pub fn also(c: Checked, passes: bool, check: Check) -> Checked
+#[tactic(auto, unfolding(crate::specs::Checks::also_checked))]
+pub fn also(c: Result<(), Check>, passes: bool, check: Check) -> Result<(), Check>
     ensures { Checks c passes check result }
 {
-    match c {
-        Checked::Passes => {
-            if passes {
-                Checked::Passes
-            } else {
-                Checked::Fails(check)
-            }
-        }
-        Checked::Fails(first) => Checked::Fails(first),
-    }
+    c?;
+    if passes { Ok(()) } else { Err(check) }
 }
 
 fn numbered(number: u8, command: u8) -> Numbers
@@ -97,36 +84,17 @@ fn numbered(number: u8, command: u8) -> Numbers
     }
 }
 
-fn check_number(check: Check) -> u8
-    ensures { result ≡ check_number check }
-{
-    match check {
-        Check::StateRange => 10,
-        Check::PieceSize => 11,
-        Check::PictureSize => 12,
-        Check::FontSize => 13,
-        Check::ListSize => 14,
-        Check::ReplySize => 15,
-        Check::RegisterSize => 16,
-        Check::KeyOrPin => 17,
-        Check::KeyAsTold => 18,
-        Check::GlyphNumber => 27,
+// The number that a call refused by a check answers.
+impl From<Check> for u8 {
+    ghost from_gives = { NumbersCheck };
+
+    #[tactic(auto, unfolding(crate::specs::Answer::check_number))]
+    fn from(check: Check) -> u8 {
+        check as u8
     }
 }
 
-// Document 01's number of a reason.
-fn reason_number(reason: Reason) -> u8
-    ensures { result ≡ reason_number reason }
-{
-    match reason {
-        Reason::UnknownCommand => 1,
-        Reason::LengthNotAllowed => 2,
-        Reason::DataOutOfRange => 3,
-        Reason::PastColumn19 => 4,
-        Reason::NotTheReboot => 5,
-    }
-}
-
+#[tactic(auto, unfolding(crate::specs::Answer::numbers_of))]
 pub fn told(answer: Answer) -> Numbers
     ensures { Tells answer result }
 {
@@ -137,26 +105,24 @@ pub fn told(answer: Answer) -> Numbers
         Answer::Refused(command, reason, place) => Numbers {
             number: 4,
             command,
-            reason: reason_number(reason),
+            reason: u8::from(reason),
             place,
         },
-        Answer::CallRefused(check) => numbered(check_number(check), 0),
+        Answer::CallRefused(check) => numbered(u8::from(check), 0),
     }
 }
 
 // What is handed on for filing: the key of a refused packet, or nothing to file.
-pub fn to_file(answer: Answer) -> Filing
+pub fn to_file(answer: Answer) -> Option<Refusal>
     ensures { Hands answer result }
 {
-    let n = told(answer);
-    let key = Refusal {
-        command: n.command,
-        reason: n.reason,
-        place: n.place,
-    };
-    Filing {
-        refused: n.number == 4,
-        key,
+    match answer {
+        Answer::Refused(command, why, place) => Some(Refusal {
+            command,
+            reason: u8::from(why),
+            place,
+        }),
+        _ => None,
     }
 }
 
@@ -164,15 +130,10 @@ pub fn to_file(answer: Answer) -> Filing
 pub fn nothing_taken(p: Panel, answer: Answer, reply: usize) -> Said
     ensures { TakesNothing p answer reply result }
 {
-    let counts = Counts {
-        taken: 0,
-        dropped: 0,
-        checked: 0,
-    };
     Said {
         panel: p,
         answer,
-        counts,
+        counts: NO_COUNTS,
         reply,
         listed: 0,
     }

@@ -1,14 +1,16 @@
 -- Laws of single bits, in masks of any width.
-use Prim.Native.Nat.{ℕ, ◌+◌, ◌*◌, ◌-◌, ◌/◌, ◌%◌, ◌^◌, ◌<◌, ◌≤◌}
+use Prim.Native.Nat.{ℕ, ◌*◌, ◌-◌, ◌/◌, ◌%◌, ◌^◌, ◌<◌, ◌≤◌}
 use mathlib.Core.Path.{◌≡◌, refl, sym, ◌∙◌, ap}
-use mathlib.Core.Logic.{dite}
-use mathlib.Core.Bool.{true, false, true≢false}
-use native.Mathlib.Nat.{one-mul, mod-eq_of_lt, div-eq_of_lt, add-div_right, add-mul-div_right, div-lt_iff_lt-mul}
-use native.Mathlib.Decide.{dec_le, dec_lt}
+use mathlib.Core.Bool.{Bool, true, false, not}
+use native.Mathlib.Nat.{one-mul, mod-eq_of_lt, div-eq_of_lt}
 use native.Mathlib.Omega.{arith}
-use lib.Pow.{pow_pos, pow-lt, pow_mono, pow-add, shr-shr}
+use lib.Pow.{pow_pos, pow-lt, pow_mono}
 use borrow.Author.Tests.{eqb-true, eqb-false, eq-eqb, ne_eqb}
-use Rattle.lists.specs.Tests.{◌=?◌}
+use Rattle.std.specs.Prelude.{◌==◌}
+use Rattle.std.specs.Int.{bit_at}
+use Rattle.std.specs.Int.Bits.{bit_and, bit_or, bit_xor, or_add_and, xor_add_and, and_self}
+use Rattle.std.proofs.lemmas.Nat.{and-not, and_comm, and_assoc, or_lt}
+use Rattle.std.proofs.lemmas.Nat.Bits.{and_pow, bit_at_and, bit_at_or, bit_at_xor, bit_at-lt, bit_at-pow_same, bit_at-pow_other}
 use Rattle.lists.proofs.Laws.{when_either}
 use Rattle.bits.specs.Bits.{is_on, with_bit, without_bit}
 
@@ -21,102 +23,83 @@ pub off_above : (mask number : ℕ) → mask < 2 ^ number → is_on mask number 
 unfolding is_on
 off_above mask number h = let q : mask / 2 ^ number ≡ 0 = div-eq_of_lt h in rw q
 
--- A bit that is on is no more than its mask.
-pub on_within : (mask number : ℕ) → is_on mask number ≡ true → 2 ^ number ≤ mask
-unfolding is_on
-on_within mask number e =
-    dite (dec_le (2 ^ number) mask) (λ h. h)
-    (λ h. let q : mask / 2 ^ number ≡ 0 = div-eq_of_lt (omega arith) in absurd (omega (arith, rw q at (eqb-true (mask / 2 ^ number % 2) 1 e))))
-
 -- A byte has eight bits.
 pub byte_off : (mask number : ℕ) → mask < 256 → 8 ≤ number → is_on mask number ≡ false
 byte_off mask number m h = off_above mask number (omega (arith, pow_mono {i = 8} {j = number} h))
 
-pub byte_on : (mask number : ℕ) → mask < 256 → is_on mask number ≡ true → number < 8
-byte_on mask number m on = dite (dec_lt number 8) (λ h. h) (λ h. absurd (true≢false (sym on ∙ byte_off mask number m (omega arith))))
-
--- the bits from `number` on, without the first and `more` others
-behind : (mask number more : ℕ) → mask / 2 ^ (number + 1 + more) ≡ mask / 2 ^ number / 2 / 2 ^ more
-behind mask number more = sym (shr-shr mask (number + 1) more) ∙ ap (λ q. q / 2 ^ more) (sym (shr-shr mask number 1))
-
--- a bit put on that was off
-module _ (mask number : ℕ) (off : is_on mask number ≡ false) where
-  even : mask / 2 ^ number % 2 ≡ 0
-  unfolding is_on
-  even = let h : (mask / 2 ^ number % 2 ≡ 1 → ⊥) = eqb-false _ 1 off in omega arith
-
-  one_more : (mask + 2 ^ number) / 2 ^ number ≡ mask / 2 ^ number + 1
-  one_more = add-div_right mask (pow_pos number)
-
-  added_on : is_on (mask + 2 ^ number) number ≡ true
-  unfolding is_on
-  added_on = eq-eqb ((mask + 2 ^ number) / 2 ^ number % 2) 1 (omega (arith, even, one_more))
-
-  -- the bits above are as they were
-  added_above : (above : ℕ) → number < above → (mask + 2 ^ number) / 2 ^ above ≡ mask / 2 ^ above
-  added_above above h =
-      let place : above ≡ number + 1 + (above - (number + 1)) = omega arith in
-      let half : (mask + 2 ^ number) / 2 ^ number / 2 ≡ mask / 2 ^ number / 2 = omega (arith, even, one_more) in
-      rw place (behind (mask + 2 ^ number) number _ ∙ ap (λ q. q / 2 ^ (above - (number + 1))) half ∙ sym (behind mask number _))
-
-  added_below : (below : ℕ) → below < number → (mask + 2 ^ number) / 2 ^ below % 2 ≡ mask / 2 ^ below % 2
-  added_below below h =
-      let place : number ≡ (number - (below + 1)) + 1 + below = omega arith in
-      let power : 2 ^ number ≡ 2 ^ (number - (below + 1)) * 2 * 2 ^ below =
-      ap (λ k. 2 ^ k) place ∙ pow-add 2 (number - (below + 1) + 1) below ∙ ap (λ x. x * 2 ^ below) (pow-add 2 (number - (below + 1)) 1) in
-      let sum : (mask + 2 ^ number) / 2 ^ below ≡ mask / 2 ^ below + 2 ^ (number - (below + 1)) * 2 =
-      ap (λ x. (mask + x) / 2 ^ below) power ∙ add-mul-div_right mask _ (pow_pos below) in
-      omega (arith, sum)
-
-  added_leaves : (other : ℕ) → (other ≡ number → ⊥) → is_on (mask + 2 ^ number) other ≡ is_on mask other
-  unfolding is_on
-  added_leaves other apart =
-      dite (dec_lt other number) (λ h. ap (λ r. r =? 1) (added_below other h)) (λ h. ap (λ q. q % 2 =? 1) (added_above other (omega arith)))
-
-  pub added_fits : (width : ℕ) → mask < 2 ^ width → number < width → mask + 2 ^ number < 2 ^ width
-  added_fits width m h =
-      let none : (mask + 2 ^ number) / 2 ^ width ≡ 0 = added_above width h ∙ div-eq_of_lt m in
-      omega (arith, (div-lt_iff_lt-mul {x = mask + 2 ^ number} {y = 1} (pow_pos width)).0 (omega arith))
-
--- a bit put off that was on is the same the other way round
-module _ (mask number : ℕ) (on : is_on mask number ≡ true) where
-  again : mask - 2 ^ number + 2 ^ number ≡ mask
-  again = omega (arith, on_within mask number on)
-
-  taken_off : is_on (mask - 2 ^ number) number ≡ false
-  unfolding is_on
-  taken_off =
-      let more : mask / 2 ^ number ≡ (mask - 2 ^ number) / 2 ^ number + 1 = ap (λ m. m / 2 ^ number) (sym again) ∙ add-div_right _ (pow_pos number) in
-      let odd : mask / 2 ^ number % 2 ≡ 1 = eqb-true _ 1 on in
-      ne_eqb ((mask - 2 ^ number) / 2 ^ number % 2) 1 (λ (e : (mask - 2 ^ number) / 2 ^ number % 2 ≡ 1). omega arith)
-
-  taken_leaves : (other : ℕ) → (other ≡ number → ⊥) → is_on (mask - 2 ^ number) other ≡ is_on mask other
-  taken_leaves other apart = sym (added_leaves (mask - 2 ^ number) number taken_off other apart) ∙ ap (λ m. is_on m other) again
-
 module _ (mask number : ℕ) where
-  pub with_bit_on : is_on (with_bit mask number) number ≡ true
+  -- the bit's place, of a mask in which it is on or off
+  mask_on : is_on mask number ≡ true → bit_and mask (2 ^ number) ≡ 2 ^ number
+  unfolding is_on
+  mask_on on = let e : bit_at mask number ≡ 1 = eqb-true _ 1 on in and_pow mask number ∙ rw (e, one-mul)
+
+  mask_off : is_on mask number ≡ false → bit_and mask (2 ^ number) ≡ 0
+  unfolding is_on
+  mask_off off =
+      let h : (bit_at mask number ≡ 1 → ⊥) = eqb-false _ 1 off in
+      let e : bit_at mask number ≡ 0 = omega (arith, bit_at-lt mask number) in
+      and_pow mask number ∙ rw e (omega arith)
+
+  -- the code's test
+  asked_at : (t : Bool) → is_on mask number ≡ t → not (bit_and mask (2 ^ number) == 0) ≡ t
+  asked_at true on = ap not (ne_eqb _ 0 (λ (z : bit_and mask (2 ^ number) ≡ 0). omega (arith, mask_on on, pow_pos number)))
+  asked_at false off = ap not (eq-eqb _ 0 (mask_off off))
+
+  pub asked : not (bit_and mask (2 ^ number) == 0) ≡ is_on mask number
+  asked = asked_at (is_on mask number) refl
+
+  -- what the code writes is what the paper says
+  pub or_bit : bit_or mask (2 ^ number) ≡ with_bit mask number
   unfolding with_bit
-  with_bit_on = when_either (λ m. is_on m number ≡ true) (is_on mask number) _ _ (λ on. on) (λ off. added_on mask number off)
+  or_bit =
+      let s = or_add_and mask (2 ^ number) in
+      when_either (λ m. bit_or mask (2 ^ number) ≡ m) (is_on mask number) _ _ (λ on. omega (arith, mask_on on)) (λ off. omega (arith, mask_off off))
+
+  pub xor_bit : bit_xor mask (bit_and mask (2 ^ number)) ≡ without_bit mask number
+  unfolding without_bit
+  xor_bit =
+      let s = xor_add_and mask (bit_and mask (2 ^ number)) in
+      let t : bit_and mask (bit_and mask (2 ^ number)) ≡ bit_and mask (2 ^ number) = sym (and_assoc (2 ^ number) mask mask) ∙ ap (λ m. bit_and m (2 ^ number)) (and_self mask) in
+      when_either (λ m. bit_xor mask (bit_and mask (2 ^ number)) ≡ m) (is_on mask number) _ _ (λ on. omega (arith, mask_on on)) (λ off. omega (arith, mask_off off))
+
+  pub and_not_bit : mask < 256 → number < 8 → bit_and mask (255 - 2 ^ number) ≡ without_bit mask number
+  unfolding without_bit
+  and_not_bit m h =
+      let s = and-not 8 (2 ^ number) mask (pow-lt h) m in
+      let t = and_comm (255 - 2 ^ number) mask in
+      let u = and_comm (2 ^ number) mask in
+      when_either (λ (k : ℕ). bit_and mask (255 - 2 ^ number) ≡ k) (is_on mask number) _ _ (λ on. omega (arith, mask_on on)) (λ off. omega (arith, mask_off off))
+
+  pub with_bit_on : is_on (with_bit mask number) number ≡ true
+  unfolding is_on
+  with_bit_on =
+      rw (← or_bit) (eq-eqb (bit_at (bit_or mask (2 ^ number)) number) 1 (omega (arith, bit_at_or mask (2 ^ number) number, bit_at-pow_same number, bit_at-lt mask number)))
 
   pub without_bit_off : is_on (without_bit mask number) number ≡ false
-  unfolding without_bit
-  without_bit_off = when_either (λ m. is_on m number ≡ false) (is_on mask number) _ _ (λ on. taken_off mask number on) (λ off. off)
+  unfolding is_on
+  without_bit_off =
+      let x : bit_at (bit_xor mask (bit_and mask (2 ^ number))) number ≡ 0 =
+      omega (arith, bit_at_xor mask (bit_and mask (2 ^ number)) number, bit_at_and mask (2 ^ number) number, bit_at-pow_same number, bit_at-lt mask number) in
+      rw (← xor_bit) (rw x)
 
   -- Of another bit neither says anything.
   pub with_bit_leaves : (other : ℕ) → (other ≡ number → ⊥) → is_on (with_bit mask number) other ≡ is_on mask other
-  unfolding with_bit
+  unfolding is_on
   with_bit_leaves other apart =
-      when_either (λ m. is_on m other ≡ is_on mask other) (is_on mask number) _ _ (λ on. refl) (λ off. added_leaves mask number off other apart)
+      let x : bit_at (bit_or mask (2 ^ number)) other ≡ bit_at mask other =
+      omega (arith, bit_at_or mask (2 ^ number) other, bit_at-pow_other number other apart) in
+      rw (← or_bit) (rw x)
 
   pub without_bit_leaves : (other : ℕ) → (other ≡ number → ⊥) → is_on (without_bit mask number) other ≡ is_on mask other
-  unfolding without_bit
+  unfolding is_on
   without_bit_leaves other apart =
-      when_either (λ m. is_on m other ≡ is_on mask other) (is_on mask number) _ _ (λ on. taken_leaves mask number on other apart) (λ off. refl)
+      let x : bit_at (bit_xor mask (bit_and mask (2 ^ number))) other ≡ bit_at mask other =
+      omega (arith, bit_at_xor mask (bit_and mask (2 ^ number)) other, bit_at_and mask (2 ^ number) other, bit_at-pow_other number other apart, bit_at-lt mask other) in
+      rw (← xor_bit) (rw x)
 
   -- A mask keeps its width.
   pub with_bit_below : (width : ℕ) → mask < 2 ^ width → number < width → with_bit mask number < 2 ^ width
-  unfolding with_bit
-  with_bit_below width m h = when_either (λ k. k < 2 ^ width) (is_on mask number) _ _ (λ on. m) (λ off. added_fits mask number off width m h)
+  with_bit_below width m h = rw (← or_bit) (or_lt width mask (2 ^ number) m (pow-lt h))
 
   pub without_bit_at_most : without_bit mask number ≤ mask
   unfolding without_bit

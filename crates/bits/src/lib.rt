@@ -16,31 +16,23 @@ fn bit(number: u8) -> u8
 pub fn is_on(mask: u8, number: u8) -> bool
     ensures { Asks mask number result }
 {
-    if 7 < number {
-        return false;
-    }
-    (mask / bit(number)) % 2 == 1
+    number < 8 && mask & bit(number) != 0
 }
 
 // The byte with a bit on; where there is none of that number, as it is.
 pub fn with_bit(mask: u8, number: u8) -> u8
     ensures { SetsBit mask number result }
 {
-    if 7 < number {
-        return mask;
-    }
-    if is_on(mask, number) {
-        return mask;
-    }
-    mask + bit(number)
+    if number < 8 { mask | bit(number) } else { mask }
 }
 
 // The byte with a bit off.
 pub fn without_bit(mask: u8, number: u8) -> u8
     ensures { Clears mask number result }
 {
-    if !is_on(mask, number) {
-        return mask;
+    if number < 8 {
+        mask & !bit(number)
+    } else {
+        mask
     }
-    mask - bit(number)
 }

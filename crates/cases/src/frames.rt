@@ -1,21 +1,25 @@
 // Cases of the framing.
-ghost use Rattle.std.specs.Prelude.{◌≤◌, length};
-
-use crate::text::{byte, labelled, word};
-use crate::words::{COMPOSE, CUTS, HEADING, SCAN, SUM};
+use crate::text::{hex, labelled, word};
+use crate::words::Word;
 use framing::Scanned;
 use packets::Hold;
 use std::io::Stdout;
-use std::num::wrapping_add_usize;
 
-// What calls come to, besides their packets; of the last one what it took and whether it found a packet.
+// What calls come to, besides their packets.
 #[derive(Clone, Copy)]
 struct Sums {
     hold: Hold,
-    taken: usize,
-    found: bool,
     dropped: usize,
     checked: usize,
+}
+
+// What no call has come to yet.
+fn begun(hold: Hold) -> Sums {
+    Sums {
+        hold,
+        dropped: 0,
+        checked: 0,
+    }
 }
 
 // What a call took, where `took` says so, and its packet.
@@ -23,27 +27,11 @@ fn shown(stdout: Stdout, r: Scanned, took: bool) {
     if took {
         labelled(stdout, b" took ", r.counts.taken);
     }
-    if r.found {
-        let content = r.packet.content;
+    if let Some(packet) = r.packet {
         word(stdout, b" [");
-        byte(stdout, r.packet.kind, true);
-        crate::text::bytes(stdout, &content, 0, r.packet.length, true);
+        hex(stdout, packet.kind);
+        crate::text::bytes(stdout, &packet.content, 0, packet.length, hex);
         word(stdout, b"]");
-    }
-}
-
-// One call.
-fn call(stdout: Stdout, s: Sums, piece: &[u8], took: bool) -> Sums {
-    let before = s.hold;
-    let r = framing::scan(before, piece);
-    shown(stdout, r, took);
-    let hold = r.hold;
-    Sums {
-        hold,
-        taken: r.counts.taken,
-        found: r.found,
-        dropped: wrapping_add_usize(s.dropped, r.counts.dropped),
-        checked: wrapping_add_usize(s.checked, r.counts.checked),
     }
 }
 
@@ -54,62 +42,62 @@ fn told(stdout: Stdout, s: Sums) {
     crate::text::end(stdout);
 }
 
-// Calls until all is taken and the answer is waiting: on the bytes before `cut`, and then on the rest. A line of the script
-// spells at most 256 bytes, so that by `four_bytes_a_packet`, with at most 25 bytes held before, there are no more calls than
-// the loop allows; no call takes more than its piece.
-fn calls(stdout: Stdout, before: Hold, bytes: &[u8], cut: usize, took: bool) -> Hold
-    requires { cut ≤ length bytes.now }
-{
-    let mut s = Sums {
-        hold: before,
-        taken: 0,
-        found: false,
-        dropped: 0,
-        checked: 0,
-    };
-    let mut at: usize = 0;
-    let mut end = cut;
-    let mut n: usize = 0;
-    while n < 80 {
-        n += 1;
-        s = call(stdout, s, &bytes[at..end], took);
-        at += lists::at_most(s.taken, end - at);
-        if !s.found {
-            if end == bytes.len() {
-                told(stdout, s);
-                return s.hold;
-            }
-            end = bytes.len();
+// Calls until all is taken and the answer is waiting. A line of the script spells at most 256 bytes, so that by
+// `four_bytes_a_packet`, with at most 25 bytes held before, there are no more calls than the loop allows; no call takes more
+// than its piece.
+fn calls(stdout: Stdout, before: Sums, bytes: &[u8], took: bool) -> Sums {
+    let mut s = before;
+    let mut rest = bytes;
+    for _ in 0..80usize {
+        let r = framing::scan(s.hold, rest);
+        shown(stdout, r, took);
+        s = Sums {
+            hold: r.hold,
+            dropped: s.dropped.saturating_add(r.counts.dropped),
+            checked: s.checked.saturating_add(r.counts.checked),
+        };
+        rest = &rest[r.counts.taken.min(rest.len())..];
+        if r.packet.is_none() {
+            break;
         }
     }
+    s
+}
+
+// What is held after calls on bytes.
+fn scan(stdout: Stdout, held: Hold, bytes: &[u8]) -> Hold {
+    let s = calls(stdout, begun(held), bytes, true);
+    told(stdout, s);
     s.hold
 }
 
 // The bytes cut in two at each place, from nothing held.
+// Kept: each turn is about a place to cut at, and not about a byte.
 fn cuts(stdout: Stdout, bytes: &[u8]) {
     for at in 0..bytes.len() {
         labelled(stdout, b"cut at ", at);
-        calls(stdout, packets::empty(), bytes, at, false);
+        let s = calls(stdout, begun(packets::empty()), &bytes[..at], false);
+        told(stdout, calls(stdout, s, &bytes[at..], false));
     }
 }
 
 fn compose(stdout: Stdout, bytes: &[u8]) {
     let mut out = [0u8; 26];
-    if 0 < bytes.len() {
-        let n = packets::compose(&mut out, lists::at(bytes, 0), &bytes[1..]);
-        crate::text::bytes(stdout, &out, 0, n, true);
+    if let [kind, content @ ..] = bytes {
+        let n = packets::compose(&mut out, *kind, content);
+        crate::text::bytes(stdout, &out, 0, n, hex);
     }
     crate::text::end(stdout);
 }
 
 // What is held after a line of the script that spells these bytes.
-pub fn run(stdout: Stdout, name: usize, bytes: &[u8], held: Hold) -> Hold {
+pub fn run(stdout: Stdout, name: Word, bytes: &[u8], held: Hold) -> Hold {
     match name {
-        HEADING => return packets::empty(),
-        SCAN => return calls(stdout, held, bytes, bytes.len(), true),
-        CUTS => cuts(stdout, bytes),
-        COMPOSE => compose(stdout, bytes),
-        SUM => crate::text::checksum(stdout, bytes),
+        Word::Heading => return packets::empty(),
+        Word::Scan => return scan(stdout, held, bytes),
+        Word::Cuts => cuts(stdout, bytes),
+        Word::Compose => compose(stdout, bytes),
+        Word::Sum => crate::text::checksum(stdout, bytes),
         _ => {}
     }
     held

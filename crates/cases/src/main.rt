@@ -19,7 +19,6 @@
 
 #![tactic(auto)]
 
-mod buffers;
 mod device;
 mod frames;
 mod hosts;
@@ -30,54 +29,32 @@ mod value;
 mod words;
 mod wrong;
 
-ghost use Rattle.std.specs.Prelude.{◌≤◌, length};
-
-use std::io::{Read, Stdin, Stdout};
+use std::io::Stdout;
 
 // Room for a script.
 const SCRIPT: usize = 65536;
 
 // The cases, one line after the other.
 fn run(stdout: Stdout, script: &[u8]) {
-    let mut buffers = device::begin();
+    let mut desk = device::begin();
     let mut held = packets::empty();
-    let mut tape = [0u8; tapes::ROOM];
-    let mut size: usize = 0;
-    let mut at: usize = 0;
-    while at < script.len() {
-        let end = text::until(script, at, b'\n');
-        let line = &script[at..end];
-        at = end + 1;
-        let word = words::number(stdout, line);
-        let mut room = [0u8; 256];
-        let n = text::bytes_of(line, &mut room);
-        let bytes = &room[..n];
-        held = frames::run(stdout, word, bytes, held);
-        buffers = device::run(stdout, word, line, bytes, buffers);
-        show::run(stdout, word, line, buffers);
-        hosts::run(stdout, word, bytes);
-        size = tapes::run(stdout, word, line, bytes, &mut tape, size);
-    }
-}
-
-// Fills the room from standard input, until it is full, the input ends or a read fails. How many bytes were read.
-fn read_full(from: Stdin, room: &mut [u8]) -> usize
-    ensures { result ≤ length room.new }
-{
-    let mut input = from;
-    let mut n: usize = 0;
-    while n < room.len() {
-        let more = input.read(&mut room[n..]).unwrap_or(0);
-        if more == 0 {
-            return n;
+    let mut tape = tapes::empty();
+    for line in script.split(|b| *b == b'\n') {
+        if let Some(word) = words::read(stdout, line) {
+            let mut room = [0u8; 256];
+            let n = text::bytes_of(line, &mut room);
+            let bytes = &room[..n];
+            held = frames::run(stdout, word, bytes, held);
+            device::run(stdout, word, line, bytes, &mut desk);
+            show::run(stdout, word, line, &desk);
+            hosts::run(stdout, word, bytes);
+            tape.run(stdout, word, line, bytes);
         }
-        n += more;
     }
-    n
 }
 
 fn main(rt: HostRuntime) {
     let mut script = [0u8; SCRIPT];
-    let n = read_full(rt.stdin(), &mut script);
+    let (n, _) = telling::fill(&mut rt.stdin(), &mut script);
     run(rt.stdout(), &script[..n]);
 }

@@ -2,28 +2,21 @@
 ghost use Rattle.std.specs.Prelude.{◌≤◌, length};
 
 use std::io::Stdout;
-use std::num::wrapping_add_usize;
 
-// Where the mark stands first from `from` on, or where the text ends.
-pub fn until(s: &[u8], from: usize, mark: u8) -> usize
-    requires { from ≤ length s.now }
-    ensures { (from ≤ result) × (result ≤ length s.now) }
-{
-    let mut i = from;
-    while i < s.len() {
-        if s[i] == mark {
-            return i;
-        }
-        i += 1;
+// The value of a hexadecimal digit.
+fn digit(b: u8) -> Option<u8> {
+    match b {
+        b'0'..=b'9' => Some(b - b'0'),
+        b'A'..=b'F' => Some(b - b'A' + 10),
+        _ => None,
     }
-    i
 }
 
-// The value of a hexadecimal digit, or 16 for any other byte.
-fn digit(b: u8) -> usize
-    ensures { result ≤ 16 }
-{
-    until(b"0123456789ABCDEF", 0, b)
+// The byte that two hexadecimal digits spell.
+fn spelt(high: u8, low: u8) -> Option<u8> {
+    let high = digit(high)?;
+    let low = digit(low)?;
+    Some(high.wrapping_mul(16) | low)
 }
 
 // The bytes that `s` spells in pairs of hexadecimal digits, as many as `out` has room for; whatever else stands in `s` is
@@ -31,20 +24,22 @@ fn digit(b: u8) -> usize
 pub fn bytes_of(s: &[u8], out: &mut [u8]) -> usize
     ensures { result ≤ length out.new }
 {
-    let mut n: usize = 0;
-    let mut i: usize = 0;
-    while i < s.len() {
-        let high = digit(lists::at(s, i));
-        let low = digit(lists::at(s, i + 1));
-        if (high < 16) & (low < 16) {
-            shapes::lay_byte(out, n, ((high * 16 + low) % 256) as u8);
-            n += 1;
-            i += 2;
-        } else {
-            i += 1;
+    let mut n = 0;
+    let mut rest = s;
+    // Kept: a pair takes two bytes, and what is passed over one.
+    while let [high, low, behind @ ..] = rest {
+        match spelt(*high, *low) {
+            Some(byte) => {
+                if n < out.len() {
+                    out[n] = byte;
+                    n += 1;
+                }
+                rest = behind;
+            }
+            None => rest = &rest[1..],
         }
     }
-    lists::at_most(n, out.len())
+    n
 }
 
 // The bytes as they are. Here and below a failed write is passed over.
@@ -63,39 +58,34 @@ pub fn labelled(stdout: Stdout, text: &[u8], n: usize) {
     let _ = print!(stdout; "{n}");
 }
 
-// The text with the bytes of `s` from a place on, in decimal, in place of its % marks.
-pub fn filled(stdout: Stdout, text: &[u8], s: &[u8], place: usize)
-    requires { place ≤ 1000 }
-{
-    let mut at: usize = 0;
-    let mut i: usize = 0;
-    while at < text.len() {
-        let end = until(text, at, b'%');
-        word(stdout, &text[at..end]);
-        if end < text.len() {
-            byte(stdout, lists::at(s, place + i), false);
+// The text with the bytes of `s` in decimal in place of its % marks; 0 past their end.
+pub fn filled(stdout: Stdout, text: &[u8], s: &[u8]) {
+    let mut rest = s.iter();
+    for (i, part) in text.split(|b| *b == b'%').enumerate() {
+        if 0 < i {
+            plain(stdout, rest.next().copied().unwrap_or(0));
         }
-        at = end + 1;
-        i += 1;
+        word(stdout, part);
     }
 }
 
-// A byte in hexadecimal or in decimal.
-pub fn byte(stdout: Stdout, b: u8, hex: bool) {
-    if hex {
-        let _ = print!(stdout; "{b:02x}");
-    } else {
-        let _ = print!(stdout; "{b}");
-    }
+// A byte in decimal.
+pub fn plain(stdout: Stdout, b: u8) {
+    let _ = print!(stdout; "{b}");
 }
 
-// The bytes from one place up to another, each behind a blank.
-pub fn bytes(stdout: Stdout, s: &[u8], from: usize, to: usize, hex: bool) {
-    let mut i = from;
-    while i < to {
+// A byte in hexadecimal.
+pub fn hex(stdout: Stdout, b: u8) {
+    let _ = print!(stdout; "{b:02x}");
+}
+
+// The bytes from one place up to another, each behind a blank and as `shown` prints it; 0 past their end.
+pub fn bytes<F: Fn(Stdout, u8)>(stdout: Stdout, s: &[u8], from: usize, to: usize, shown: F)
+    requires { F.IsAlwaysCallable shown }
+{
+    for i in from..to {
         word(stdout, b" ");
-        byte(stdout, lists::at(s, i), hex);
-        i += 1;
+        shown(stdout, lists::at(s, i));
     }
 }
 
@@ -112,18 +102,14 @@ pub fn checksum(stdout: Stdout, s: &[u8]) {
 pub fn decimal(s: &[u8], wanted: usize, most: usize) -> usize
     ensures { result ≤ most }
 {
-    let mut passed: usize = 0;
-    let mut inside = false;
+    let run = s
+        .split(|b| !b.is_ascii_digit())
+        .filter(|run| !run.is_empty())
+        .nth(wanted)
+        .unwrap_or(&[]);
     let mut value: usize = 0;
-    let mut i: usize = 0;
-    while i < s.len() {
-        let d = digit(lists::at(s, i));
-        if (d < 10) & (passed == wanted) {
-            value = lists::at_most(value, 1000000000) * 10 + d;
-        }
-        passed = wrapping_add_usize(passed, (inside & (9 < d)) as usize);
-        inside = d < 10;
-        i += 1;
+    for &b in run {
+        value = value.min(1000000000) * 10 + usize::from(b.saturating_sub(b'0'));
     }
-    lists::at_most(value, most)
+    value.min(most)
 }

@@ -1,104 +1,105 @@
-// The words of a script, each with its number.
-use crate::text::until;
+// The words of a script.
 use std::io::Stdout;
 
-// A case begins, or a value or a code's rows are set, and nothing is printed.
-pub const HEADING: usize = 0;
-
-pub const SET: usize = 1;
-
-pub const UNFILED: usize = 2;
-
-pub const COUNT: usize = 3;
-
-pub const FONT: usize = 4;
-
-// What is printed begins with another word.
-pub const LINE: usize = 5;
-
-pub const VALUE: usize = 6;
-
-pub const FAULTS: usize = 7;
-
-pub const CUTS: usize = 8;
-
-// What is printed begins with the word itself.
-pub const PRESS: usize = 9;
-
-pub const RELEASE: usize = 10;
-
-pub const LEND: usize = 11;
-
-pub const HIGH: usize = 12;
-
-pub const LOW: usize = 13;
-
-pub const SIZES: usize = 14;
-
-pub const POWER: usize = 15;
-
-pub const STATE: usize = 16;
-
-pub const CELL: usize = 17;
-
-pub const PICTURE: usize = 18;
-
-pub const SCAN: usize = 19;
-
-pub const COMPOSE: usize = 20;
-
-pub const SUM: usize = 21;
-
-pub const ASK: usize = 22;
-
-pub const TEXT: usize = 23;
-
-pub const READ: usize = 24;
-
-pub const NEXT: usize = 25;
-
-pub const CELLS: usize = 26;
-
-// A recording is put together, or a cell's byte in the sets is set, and nothing is printed.
-pub const TAPE: usize = 27;
-
-pub const FILL: usize = 28;
-
-pub const MARK: usize = 29;
-
-// How many words of the list stand before the word; a blank stands behind each.
-fn place(word: &[u8], list: &[u8]) -> usize {
-    let mut n: usize = 0;
-    let mut at: usize = 0;
-    let mut i: usize = 0;
-    while at < list.len() {
-        let listed = lists::at(list, at);
-        let given = lists::at(word, i);
-        if listed == given {
-            i += 1;
-            at += 1;
-        } else {
-            if (listed == b' ') & (given == 0) {
-                return n;
-            }
-            n += 1;
-            i = 0;
-            at = until(list, at, b' ') + 1;
-        }
-    }
-    n
+#[derive(Clone, Copy, PartialEq, Eq)]
+pub enum Word {
+    // A case begins, or a value or a code's rows are set, and nothing is printed.
+    Heading,
+    Set,
+    Unfiled,
+    Count,
+    Font,
+    // What is printed begins with another word.
+    Line,
+    Value,
+    Faults,
+    Cuts,
+    // What is printed begins with the word itself.
+    Press,
+    Release,
+    Lend,
+    High,
+    Low,
+    Sizes,
+    Power,
+    State,
+    Cell,
+    Picture,
+    Scan,
+    Compose,
+    Sum,
+    Ask,
+    Text,
+    Read,
+    Next,
+    Cells,
+    // A recording is put together, or a cell's byte in the sets is set, and nothing is printed.
+    Tape,
+    Fill,
+    Mark,
 }
 
-// The number of the word that a line begins with, after printing it where what is printed begins so.
-pub fn number(stdout: Stdout, line: &[u8]) -> usize {
-    let end = until(line, 0, b' ');
-    let word = &line[..end];
-    let n = place(
-        word,
-        b"# set unfiled count font line value faults cuts press release lend high low sizes power state cell picture scan compose sum ask text read next cells tape fill mark ",
-    );
-    if (PRESS <= n) & (n < TAPE) {
-        crate::text::word(stdout, word);
+fn named(name: &[u8]) -> Option<Word> {
+    let word = match name {
+        b"#" => Word::Heading,
+        b"set" => Word::Set,
+        b"unfiled" => Word::Unfiled,
+        b"count" => Word::Count,
+        b"font" => Word::Font,
+        b"line" => Word::Line,
+        b"value" => Word::Value,
+        b"faults" => Word::Faults,
+        b"cuts" => Word::Cuts,
+        b"press" => Word::Press,
+        b"release" => Word::Release,
+        b"lend" => Word::Lend,
+        b"high" => Word::High,
+        b"low" => Word::Low,
+        b"sizes" => Word::Sizes,
+        b"power" => Word::Power,
+        b"state" => Word::State,
+        b"cell" => Word::Cell,
+        b"picture" => Word::Picture,
+        b"scan" => Word::Scan,
+        b"compose" => Word::Compose,
+        b"sum" => Word::Sum,
+        b"ask" => Word::Ask,
+        b"text" => Word::Text,
+        b"read" => Word::Read,
+        b"next" => Word::Next,
+        b"cells" => Word::Cells,
+        b"tape" => Word::Tape,
+        b"fill" => Word::Fill,
+        b"mark" => Word::Mark,
+        _ => return None,
+    };
+    Some(word)
+}
+
+// Whether what is printed begins with the word itself.
+fn begins(word: Word) -> bool {
+    match word {
+        Word::Heading | Word::Set | Word::Unfiled | Word::Count | Word::Font => false,
+        Word::Line | Word::Value | Word::Faults | Word::Cuts => false,
+        Word::Tape | Word::Fill | Word::Mark => false,
+        _ => true,
     }
-    n
+}
+
+// The bytes before the mark, or all where there is none.
+fn before(s: &[u8], mark: u8) -> &[u8] {
+    match s.iter().position(|b| *b == mark) {
+        Some(end) => &s[..end],
+        None => s,
+    }
+}
+
+// The word that a line begins with, up to a blank or a byte 0, after printing it where what is printed begins so.
+pub fn read(stdout: Stdout, line: &[u8]) -> Option<Word> {
+    let text = before(line, b' ');
+    let word = named(before(text, 0))?;
+    if begins(word) {
+        crate::text::word(stdout, text);
+    }
+    Some(word)
 }

@@ -1,18 +1,16 @@
 // Calls with buffers of other sizes, states that no command sets, and counts that no case could reach by refusals.
 ghost use Rattle.std.specs.Prelude.{◌≤◌};
 
-use crate::buffers::Buffers;
 use crate::show::ROOM;
 use crate::text::decimal;
 use registerbytes::RECORD;
-use session::sizes::{SAID, STATE};
+use session::sizes::{FAULTS, SAID, STATE};
 use statebytes::places::{BOOT, CONTRAST, COUNT, DOWN, LIVE, SETS, STYLE, UNFILED};
 use std::io::Stdout;
 
 // One line call on a piece of zeros, which hold no packet; the line tells, in order, the sizes of the piece, the picture, the
 // font, the list, the reply buffer and the register.
-pub fn sizes(stdout: Stdout, line: &[u8], state: [u8; STATE]) -> [u8; STATE] {
-    let mut t = state;
+pub fn sizes(stdout: Stdout, line: &[u8], state: &mut [u8; STATE]) {
     let piece = [0u8; 4097];
     let mut screen = [0u8; 641];
     let font = [0u8; 2049];
@@ -27,7 +25,7 @@ pub fn sizes(stdout: Stdout, line: &[u8], state: [u8; STATE]) -> [u8; STATE] {
     let e = decimal(line, 4, 27);
     let f = decimal(line, 5, 65) * RECORD;
     naupelys::naupelys_line(
-        &mut t,
+        state,
         &piece[..a],
         &mut screen[..b],
         &font[..c],
@@ -37,7 +35,6 @@ pub fn sizes(stdout: Stdout, line: &[u8], state: [u8; STATE]) -> [u8; STATE] {
         &mut said,
     );
     crate::show::call(stdout, &said);
-    t
 }
 
 fn drawn(stdout: Stdout, screen: &[u8; 641]) {
@@ -62,68 +59,56 @@ pub fn power(stdout: Stdout, line: &[u8]) {
 }
 
 // A key pressed with a reply buffer of the size that stands behind the key.
-pub fn lend(stdout: Stdout, line: &[u8], state: [u8; STATE]) -> [u8; STATE] {
-    let mut t = state;
+pub fn lend(stdout: Stdout, line: &[u8], state: &mut [u8; STATE]) {
     let mut reply = [0u8; 27];
     let mut said = [0u8; SAID];
     let size = decimal(line, 1, 27);
     naupelys::naupelys_key(
-        &mut t,
+        state,
         decimal(line, 0, 255) as u32,
         true,
         &mut reply[..size],
         &mut said,
     );
     crate::show::call(stdout, &said);
-    t
 }
 
 // The cells of a glyph in a list of the size that stands behind the glyph. What is in the list's room before, 170, shows which of
 // its bytes are written.
-pub fn cells(stdout: Stdout, line: &[u8], state: [u8; STATE]) {
+pub fn cells(stdout: Stdout, line: &[u8], state: &[u8; STATE]) {
     let mut room = [170u8; ROOM];
     let mut said = [0u8; SAID];
     let glyph = decimal(line, 0, 4294967295) as u32;
     let size = decimal(line, 1, ROOM);
-    naupelys::naupelys_symbol_cells(&state, glyph, &mut room[..size], &mut said);
+    naupelys::naupelys_symbol_cells(state, glyph, &mut room[..size], &mut said);
     crate::show::cells(stdout, &said, &room);
 }
 
 // One value of the state set without a command, by the first letter behind "set": the live settings' contrast, the boot
 // state's style, the keys down or how many bytes are held.
-pub fn set(line: &[u8], state: [u8; STATE]) -> [u8; STATE] {
-    let mut t = state;
+pub fn set(line: &[u8], state: &mut [u8; STATE]) {
     let place = match lists::at(line, 4) {
         b'c' => LIVE + CONTRAST,
         b'b' => BOOT + STYLE,
         b'd' => DOWN,
         _ => COUNT,
     };
-    shapes::lay_byte(&mut t, place, decimal(line, 0, 255) as u8);
-    t
+    shapes::lay_byte(state, place, decimal(line, 0, 255) as u8);
 }
 
 // A cell's byte in the sets: the cell and the byte.
-pub fn mark(line: &[u8], state: [u8; STATE]) -> [u8; STATE] {
-    let mut t = state;
+pub fn mark(line: &[u8], state: &mut [u8; STATE]) {
     let place = SETS + decimal(line, 0, 79);
-    shapes::lay_byte(&mut t, place, decimal(line, 1, 255) as u8);
-    t
+    shapes::lay_byte(state, place, decimal(line, 1, 255) as u8);
 }
 
 // The unfiled number set.
-pub fn unfiled(line: &[u8], state: [u8; STATE]) -> [u8; STATE] {
-    let mut t = state;
-    shapes::lay_word(&mut t, UNFILED, decimal(line, 0, 4294967295) as u32);
-    t
+pub fn unfiled(line: &[u8], state: &mut [u8; STATE]) {
+    shapes::lay_word(state, UNFILED, decimal(line, 0, 4294967295) as u32);
 }
 
 // A record's count set: its number and the count, which stands behind command, reason and place.
-pub fn count(line: &[u8], b: Buffers) -> Buffers {
-    let mut faults = b.faults;
+pub fn count(line: &[u8], faults: &mut [u8; FAULTS]) {
     let place = decimal(line, 0, 63) * RECORD + 3;
-    shapes::lay_word(&mut faults, place, decimal(line, 1, 4294967295) as u32);
-    let mut t = b;
-    t.faults = faults;
-    t
+    shapes::lay_word(faults, place, decimal(line, 1, 4294967295) as u32);
 }

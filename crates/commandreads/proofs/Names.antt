@@ -1,25 +1,24 @@
 -- Every packet that the panel allows is a command's: some command is named, and its code and data are those of the packet.
 use Prim.Native.Nat.{ℕ, ◌≤◌}
-use mathlib.Core.Path.{◌≡◌, refl, sym, ap}
+use mathlib.Core.Path.{◌≡◌, refl, sym, ap, subst}
 use mathlib.Core.Logic.{dite}
-use mathlib.Core.Bool.{Bool, true, false, false≢true, ◌&&◌, and-eq-true_iff}
+use mathlib.Core.Bool.{Bool, true, false, ◌&&◌, and-eq-true_iff}
 use mathlib.Core.List.{List, [], ◌∷◌, ◌++◌}
 use native.Mathlib.Decide.{dec_le}
 use native.Mathlib.Omega.{arith}
 use lib.ListN.{length, drop, get_or}
 use borrow.Author.Tests.{eqb-true, eq-eqb, ne_eqb, leb-true, le-leb}
+use Rattle.std.specs.Prelude.{Option, Some, None, Ok}
 use Rattle.lists.specs.Tests.{when◌then◌else◌, ◌≤?◌, ◌=?◌}
 use Rattle.lists.proofs.Laws.{when_either}
 use Rattle.table.specs.declared.Row.{Row}
+use Rattle.table.specs.declared.Rule.TheVariants as rules
 use Rattle.table.specs.Table.{TableRow, row, table, look_up}
 use Rattle.verdict.specs.declared.Reason.TheVariants as reasons
-use Rattle.verdict.specs.declared.Verdict.TheVariants as verdicts
-use Rattle.verdict.specs.Verdict.{is_reboot, whole_verdict, verdict_of}
+use Rattle.verdict.specs.Verdict.{is_reboot, whole_verdict, refused, verdict_of}
 use Rattle.verdict.proofs.Reasons.{Seen, together, see}
 use Rattle.composer.proofs.Verdicts.{allowed_fits}
 use Rattle.commands.specs.declared.Command.{Command}
-use Rattle.commandreads.specs.declared.Named.{Named}
-use Rattle.commandreads.specs.declared.Named.TheVariants.{Is, None}
 use Rattle.commands.specs.Commands.{form_of, code_of, data_of, bytes_in}
 use Rattle.commandreads.specs.Backwards.{has_form, candidates, first_with}
 
@@ -34,40 +33,45 @@ goes_on P (x ∷ xs) f g = λ p. goes_on P xs f (g p)
 
 -- what holds of each command of a list that has a code and so many data bytes holds of the one that is named
 named_holds : (P : Command → Type 0) (code n : ℕ) (c : Command) (cs : List Command)
-    → Given (λ c. has_form code n (form_of c) ≡ true → P c) cs (first_with code n cs ≡ Is c → P c)
+    → Given (λ c. has_form code n (form_of c) ≡ true → P c) cs (first_with code n cs ≡ Some c → P c)
 unfolding first_with
-named_holds P code n c [] = λ q. let z : ◌≡◌ {A = ℕ} 0 1 = cc in absurd (omega arith)
+named_holds P code n c [] = λ q. cc
 named_holds P code n c (x ∷ xs) =
     λ here. goes_on (λ c. has_form code n (form_of c) ≡ true → P c) xs
-    (λ later. when_either (λ (r : Named). r ≡ Is c → P c) (has_form code n (form_of x)) (Is x) (first_with code n xs) (λ t q. let same : x ≡ c = cc in rw same at (here t)) (λ _. later))
+    (λ later. when_either (λ (r : Option Command). r ≡ Some c → P c) (has_form code n (form_of x)) (Some x) (first_with code n xs) (λ t q. let same : x ≡ c = cc in rw same at (here t)) (λ _. later))
     (named_holds P code n c xs)
 
--- what holds of each row of a table holds of the row that a known code has
+-- what holds of each row of a table holds of the row that a code has
 abbrev OfRow : (ℕ → ℕ → ℕ → Type 0) → TableRow → Type 0
 OfRow P (row code shortest longest rule) = P code shortest longest
 
-row_holds : (P : ℕ → ℕ → ℕ → Type 0) (code : ℕ) (rows : List TableRow)
-    → Given (OfRow P) rows ((look_up code rows).known ≡ true → P code (look_up code rows).shortest (look_up code rows).longest)
+row_holds : (P : ℕ → ℕ → ℕ → Type 0) (code : ℕ) (r : Row) (rows : List TableRow) → Given (OfRow P) rows (look_up code rows ≡ Some r → P code r.shortest r.longest)
 unfolding look_up
-row_holds P code [] = λ k. absurd (false≢true k)
-row_holds P code (row c shortest longest rule ∷ rows) =
+row_holds P code r [] = λ k. cc
+row_holds P code r (row c shortest longest rule ∷ rows) =
     λ here. goes_on (OfRow P) rows
-    (λ later. when_either (λ (r : Row). r.known ≡ true → P code r.shortest r.longest) (code =? c) _ _ (λ t _. let same : c ≡ code = sym (eqb-true code c t) in rw same at here) (λ _. later))
-    (row_holds P code rows)
+    (λ later. when_either (λ (o : Option Row). o ≡ Some r → P code r.shortest r.longest) (code =? c) _ _
+    (λ t k.
+    let x : Row = record { shortest = shortest; longest = longest; rule = rule } in
+    let same : c ≡ code = sym (eqb-true code c t) in
+    let this : x ≡ r = let q : Some x ≡ Some r = k in cc in
+    subst (λ (y : Row). P code y.shortest y.longest) this (rw same at here))
+    (λ _. later))
+    (row_holds P code r rows)
 
 -- some command is named, whatever values it has
-abbrev Some : Named → Type 0
-Some (Is c) = Unit
-Some None = ⊥
+abbrev Named : Option Command → Type 0
+Named (Some c) = Unit
+Named None = ⊥
 
 module _ (a b c : ℕ) where
   abbrev Names : ℕ → ℕ → ℕ → Type 0
-  Names code shortest longest = (n : ℕ) → shortest ≤ n → n ≤ longest → Some (first_with code n (candidates a b c))
+  Names code shortest longest = (n : ℕ) → shortest ≤ n → n ≤ longest → Named (first_with code n (candidates a b c))
 
-  some_command : (code : ℕ) → (look_up code table).known ≡ true → Names code (look_up code table).shortest (look_up code table).longest
+  some_command : (code : ℕ) (r : Row) → look_up code table ≡ Some r → Names code r.shortest r.longest
   unfolding first_with form_of when◌then◌else◌
-  some_command code =
-      row_holds Names code table
+  some_command code r =
+      row_holds Names code r table
       (λ n s l. rw (le-leb 0 n s) tt)
       (λ n s l. rw (eq-eqb n 0 (omega arith)) tt)
       (λ n s l. rw (le-leb 0 n (omega arith)) tt)
@@ -113,7 +117,7 @@ spelled_3 [] e = absurd (omega arith)
 spelled_3 (x ∷ d) e = ap (λ (l : List ℕ). x ∷ l) (spelled_2 d (omega arith))
 
 -- The command that is named has the code and the data that it was named from, where the panel allows them.
-module _ (code : ℕ) (d : List ℕ) (v : verdict_of code d ≡ verdicts.Allowed) where
+module _ (code : ℕ) (d : List ℕ) (v : verdict_of code d ≡ Ok tt) where
   abbrev Stands : Command → Type 0
   Stands c = (code_of c ≡ code) × (data_of c (bytes_in c d) ≡ d)
 
@@ -122,12 +126,17 @@ module _ (code : ℕ) (d : List ℕ) (v : verdict_of code d ≡ verdicts.Allowed
   unfolding look_up whole_verdict is_reboot when◌then◌else◌
   rebooting e = go (see (look_up 5 table) d _ (rw e at v))
     where
-      told : (t : Bool) → when t then verdicts.Allowed else verdicts.Refused reasons.NotTheReboot 2 ≡ verdicts.Allowed → t ≡ true
+      told : (t : Bool) → when t then Ok tt else refused reasons.NotTheReboot 2 ≡ Ok tt → t ≡ true
       told true q = refl
-      told false q = let z : ◌≡◌ {A = ℕ} 0 1 = cc in absurd (omega arith)
+      told false q = cc
 
-      go : Seen (look_up 5 table) d verdicts.Allowed → 8 ∷ 18 ∷ 99 ∷ [] ≡ d
-      go (together f h q) =
+      asked : Row
+      asked = record { shortest = 3; longest = 3; rule = rules.Reboot }
+
+      go : Seen (look_up 5 table) d (Ok tt) → 8 ∷ 18 ∷ 99 ∷ [] ≡ d
+      go (together f h {v = x} q') =
+          let same : f.row ≡ asked = let w : Some asked ≡ Some f.row = f.command in cc in
+          let q : whole_verdict rules.Reboot d ≡ Ok tt = rw same at q' in
           let third = (and-eq-true_iff ((length d =? 3) && (get_or d 0 0 =? 8) && (get_or d 1 0 =? 18)) (get_or d 2 0 =? 99)).0 (told (is_reboot d) q) in
           let second = (and-eq-true_iff ((length d =? 3) && (get_or d 0 0 =? 8)) (get_or d 1 0 =? 18)).0 third.0 in
           let first = (and-eq-true_iff (length d =? 3) (get_or d 0 0 =? 8)).0 second.0 in
@@ -144,10 +153,10 @@ module _ (code : ℕ) (d : List ℕ) (v : verdict_of code d ≡ verdicts.Allowed
         let q = (and-eq-true_iff (code =? k) (length values ≤? length d)).0 t in
         (sym (eqb-true code k q.0), f (leb-true (length values) (length d) q.1))
 
-  abbrev found : Named
+  abbrev found : Option Command
   found = first_with code (length d) (candidates (get_or d 0 0) (get_or d 1 0) (get_or d 2 0))
 
-  named_stands : (c : Command) → found ≡ Is c → Stands c
+  named_stands : (c : Command) → found ≡ Some c → Stands c
   unfolding form_of
   named_stands c =
       named_holds Stands code (length d) c (candidates (get_or d 0 0) (get_or d 1 0) (get_or d 2 0))
@@ -171,11 +180,11 @@ module _ (code : ℕ) (d : List ℕ) (v : verdict_of code d ≡ verdicts.Allowed
       (as_exactly 34 (get_or d 0 0 ∷ get_or d 1 0 ∷ get_or d 2 0 ∷ []) (spelled_3 d))
       (as_exactly 35 (get_or d 0 0 ∷ []) (spelled_1 d))
 
-  pub named : (c : Command) × ((found ≡ Is c) × Stands c)
+  pub named : (c : Command) × ((found ≡ Some c) × Stands c)
   named =
       let f = allowed_fits code d v in
-      go found refl (some_command (get_or d 0 0) (get_or d 1 0) (get_or d 2 0) code f.command (length d) f.enough f.few)
+      go found refl (some_command (get_or d 0 0) (get_or d 1 0) (get_or d 2 0) code f.row f.command (length d) f.enough f.few)
     where
-      go : (r : Named) → found ≡ r → Some r → (c : Command) × ((found ≡ Is c) × Stands c)
-      go (Is c) e s = (c, (e, named_stands c e))
+      go : (r : Option Command) → found ≡ r → Named r → (c : Command) × ((found ≡ Some c) × Stands c)
+      go (Some c) e s = (c, (e, named_stands c e))
       go None e s = absurd s

@@ -1,11 +1,10 @@
 -- The commands as values: one definition gives each its code and its data.
-use Rattle.std.specs.Prelude.{ℕ, ◌≡◌, true, false, List, [], ◌∷◌, ◌++◌, length, drop}
-use Rattle.packets.specs.Packet.{padded}
-use Rattle.composer.specs.declared.Composing.{Composing}
+use Rattle.std.specs.Prelude.{ℕ, ◌≡◌, List, [], ◌∷◌, ◌++◌, length, drop, Result}
+use Rattle.composer.specs.declared.Written.{Written}
+use Rattle.composer.specs.declared.ComposeError.{ComposeError}
 use Rattle.composer.specs.Compose.{ComposesFor}
 use Rattle.commands.specs.declared.Command.{Command}
 use Rattle.commands.specs.declared.Command.TheVariants.{Ping, Version, WriteFlash, ReadFlash, StoreBoot, Reboot, Clear, SetGlyph, ReadMemory, SetCursor, SetStyle, SetContrast, SetBacklight, SetMasks, Poll, WriteText, SetPin, ConfigurePin, ReadPin}
-use Rattle.commands.specs.declared.Head.{Head}
 
 -- the most values that stand in front of the bytes that follow
 abbrev pub values_most : ℕ
@@ -61,13 +60,8 @@ form_bytes (followed code values) d = drop (length values) d
 abbrev pub bytes_in : Command → List ℕ → List ℕ
 bytes_in c d = form_bytes (form_of c) d
 
--- how the code has a form: at most three values
-abbrev pub head_of : Form → Head
-head_of (exactly code values) = record { code = code; count = length values; values = padded values_most values; follows = false }
-head_of (followed code values) = record { code = code; count = length values; values = padded values_most values; follows = true }
-
 -- what `compose` promises of its answer and of the buffer
-abbrev pub ComposesCommand : List ℕ → Command → List ℕ → Composing → List ℕ → Type 0
+abbrev pub ComposesCommand : List ℕ → Command → List ℕ → Result Written ComposeError → List ℕ → Type 0
 ComposesCommand packet c bytes = ComposesFor packet (code_of c) (data_of c bytes)
 
 -- what `bytes_of` promises of the part that it returns

@@ -2,214 +2,218 @@
 #![tactic(auto)]
 
 ghost use Rattle.std.specs.Prelude.{◌≡◌, set};
+ghost use Rattle.panel.specs.State.{with_text};
 ghost use Rattle.effects.specs.Effects.{with_flash, stored, polled, rebooted, cleared, glyph_set, text_written, pin_set, pin_read, live_after, effect, Affects};
 
 use packets::{CONTENT, Packet};
-use panel::{Body, CODES, INPUTS, Keys, PINS, Pins, Settings, Shown, Wires};
+use panel::{Body, CODES, Cursor, Dials, Keys, Masks, Pins, Settings, Shown, Wires};
 
-fn write_flash(mut b: Body, content: &[u8]) -> Body
+fn write_flash(b: Body, content: &[u8]) -> Body
     ensures { result ≡ with_flash b content.now }
 {
     let mut flash = b.flash;
     lists::paste(&mut flash, 0, content);
-    b.flash = flash;
-    b
+    Body { flash, ..b }
 }
 
-fn store(mut b: Body) -> Body
+fn store(b: Body) -> Body
     ensures { result ≡ stored b }
 {
-    let live = b.live;
-    b.boot = live;
-    b
+    Body { boot: b.live, ..b }
 }
 
-fn poll(mut k: Keys) -> Keys
+fn poll(k: Keys) -> Keys
     ensures { result ≡ polled k }
 {
-    k.pressed = 0;
-    k.released = 0;
-    k
+    Keys {
+        pressed: 0,
+        released: 0,
+        ..k
+    }
+}
+
+// The body with live settings of another text: whoever changes the live text searches it for its sets.
+fn with_text(b: Body, live: Settings) -> Body
+    ensures { result ≡ with_text b live }
+{
+    Body {
+        live,
+        sets: sets::search(live.shown.text),
+        ..b
+    }
 }
 
 // A reboot by itself: more than command 5 may bring one about.
-fn reboot(mut b: Body) -> Body
+fn reboot(b: Body) -> Body
     ensures { result ≡ rebooted b }
 {
-    let live = b.boot;
-    let stored = live.shown.text;
-    let sets = sets::search(stored);
-    let keys = poll(b.keys);
-    b.live = live;
-    b.sets = sets;
-    b.keys = keys;
-    b.pins.fell = 0;
-    b.pins.rose = 0;
-    b
+    let cleared = Body {
+        keys: poll(b.keys),
+        pins: Pins {
+            fell: 0,
+            rose: 0,
+            ..b.pins
+        },
+        ..b
+    };
+    with_text(cleared, b.boot)
 }
 
-fn clear(mut s: Settings) -> Settings
+fn clear(s: Settings) -> Settings
     ensures { result ≡ cleared s }
 {
-    let text = [32u8; CODES];
-    let mut shown = s.shown;
-    shown.text = text;
-    s.shown = shown;
-    s.cursor.column = 0;
-    s.cursor.row = 0;
-    s
+    Settings {
+        shown: Shown {
+            text: [32u8; CODES],
+            ..s.shown
+        },
+        cursor: Cursor { column: 0, row: 0 },
+        ..s
+    }
 }
 
-fn set_glyph(mut s: Shown, content: &[u8]) -> Shown
+fn set_glyph(s: Shown, content: &[u8]) -> Shown
     ensures { result ≡ glyph_set s content.now }
 {
-    let flat = s.glyphs;
-    let glyphs = glyphs::with_glyph(flat, lists::at(content, 0), glyphs::eight(content, 1));
-    s.glyphs = glyphs;
-    s
+    let rows = glyphs::eight(content, 1);
+    Shown {
+        glyphs: glyphs::with_glyph(s.glyphs, lists::at(content, 0), rows),
+        ..s
+    }
 }
 
-fn write_text(mut s: Shown, content: &[u8]) -> Shown
+fn write_text(s: Shown, content: &[u8]) -> Shown
     ensures { result ≡ text_written s content.now }
 {
-    let n = lists::at_most(content.len(), 2);
+    let n = content.len().min(2);
     let column = lists::wide(lists::at(content, 0));
     let row = lists::wide(lists::at(content, 1));
     let mut text = s.text;
     lists::paste(&mut text, 20 * row + column, &content[n..]);
-    s.text = text;
-    s
+    Shown { text, ..s }
 }
 
-fn with_level(levels: [u8; PINS], pin: usize, level: u8) -> [u8; PINS]
-    ensures { result ≡ set levels pin level }
+// The bytes with one of them set; where there is none at that place, as they are.
+// Kept: by value; shapes' `lay_byte` writes into what is lent, and effects does not stand on it.
+fn with_byte<const N: usize>(mut bytes: [u8; N], place: usize, byte: u8) -> [u8; N]
+    ensures { result ≡ set bytes.entry place byte }
 {
-    let mut r = levels;
-    if pin < 13 {
-        r[pin] = level;
+    if place < N {
+        bytes[place] = byte;
     }
-    r
+    bytes
 }
 
-fn with_config(configs: [u8; INPUTS], pin: usize, config: u8) -> [u8; INPUTS]
-    ensures { result ≡ set configs pin config }
-{
-    let mut r = configs;
-    if pin < 5 {
-        r[pin] = config;
-    }
-    r
-}
-
-fn set_pin(mut w: Wires, content: &[u8]) -> Wires
+#[tactic(auto, using(lists::proofs::Laws::when_true, lists::proofs::Laws::when_false))]
+fn set_pin(w: Wires, content: &[u8]) -> Wires
     ensures { result ≡ pin_set w content.now }
 {
     let pin = lists::wide(lists::at(content, 0));
-    let before = w.levels;
-    let levels = with_level(before, pin, lists::at(content, 1));
-    w.levels = levels;
-    if content.len() == 3 {
-        let also = w.configs;
-        let configs = with_config(also, pin, lists::at(content, 2));
-        w.configs = configs;
-        return w;
-    }
-    w
+    let levels = with_byte(w.levels, pin, lists::at(content, 1));
+    let configs = if content.len() == 3 {
+        with_byte(w.configs, pin, lists::at(content, 2))
+    } else {
+        w.configs
+    };
+    Wires { levels, configs }
 }
 
-fn read_pin(mut p: Pins, content: &[u8]) -> Pins
+fn read_pin(p: Pins, content: &[u8]) -> Pins
     ensures { result ≡ pin_read p content.now }
 {
     let pin = lists::at(content, 0);
-    p.fell = bits::without_bit(p.fell, pin);
-    p.rose = bits::without_bit(p.rose, pin);
-    p
+    Pins {
+        fell: bits::without_bit(p.fell, pin),
+        rose: bits::without_bit(p.rose, pin),
+        ..p
+    }
 }
 
 // The live settings after a command that changes no text; most commands change nothing else.
-fn live_after(mut live: Settings, code: u8, content: &[u8]) -> Settings
+// Kept: the codes are the paper's own numbers, by which the definition `live_after` says what each of the 64 does.
+#[tactic(auto, using(lists::proofs::Laws::when_true, lists::proofs::Laws::when_false), unfolding(crate::specs::Effects::live_after))]
+fn live_after(live: Settings, code: u8, content: &[u8]) -> Settings
     ensures { result ≡ live_after code content.now live }
 {
     let first = lists::at(content, 0);
     let second = lists::at(content, 1);
     match code {
-        9 => {
-            let shown = set_glyph(live.shown, content);
-            live.shown = shown;
-            live
-        }
-        11 => {
-            live.cursor.column = first;
-            live.cursor.row = second;
-            live
-        }
-        12 => {
-            live.dials.style = first;
-            live
-        }
-        13 => {
-            live.dials.contrast = first;
-            live
-        }
-        14 => {
-            live.dials.backlight = first;
-            live
-        }
-        23 => {
-            live.masks.press = first;
-            live.masks.release = second;
-            live
-        }
-        34 => {
-            let wires = set_pin(live.wires, content);
-            live.wires = wires;
-            live
-        }
+        9 => Settings {
+            shown: set_glyph(live.shown, content),
+            ..live
+        },
+        11 => Settings {
+            cursor: Cursor {
+                column: first,
+                row: second,
+            },
+            ..live
+        },
+        12 => Settings {
+            dials: Dials {
+                style: first,
+                ..live.dials
+            },
+            ..live
+        },
+        13 => Settings {
+            dials: Dials {
+                contrast: first,
+                ..live.dials
+            },
+            ..live
+        },
+        14 => Settings {
+            dials: Dials {
+                backlight: first,
+                ..live.dials
+            },
+            ..live
+        },
+        23 => Settings {
+            masks: Masks {
+                press: first,
+                release: second,
+            },
+            ..live
+        },
+        34 => Settings {
+            wires: set_pin(live.wires, content),
+            ..live
+        },
         _ => live,
     }
 }
 
-// The body after a command. Whoever changes the live text searches it for its sets.
-fn body_after(mut b: Body, code: u8, content: &[u8]) -> Body
+// Kept: the same numbers, by which the definition `effect` says what each of the 64 does.
+#[tactic(auto, using(lists::proofs::Laws::when_true, lists::proofs::Laws::when_false), unfolding(crate::specs::Effects::effect))]
+fn body_after(b: Body, code: u8, content: &[u8]) -> Body
     ensures { result ≡ effect code content.now b }
 {
     match code {
         2 => write_flash(b, content),
         4 => store(b),
         5 => reboot(b),
-        6 => {
-            let live = clear(b.live);
-            let blank = live.shown.text;
-            let sets = sets::search(blank);
-            b.live = live;
-            b.sets = sets;
-            b
-        }
-        24 => {
-            let keys = poll(b.keys);
-            b.keys = keys;
-            b
-        }
+        6 => with_text(b, clear(b.live)),
+        24 => Body {
+            keys: poll(b.keys),
+            ..b
+        },
         31 => {
-            let mut live = b.live;
-            let shown = write_text(live.shown, content);
-            let written = shown.text;
-            let sets = sets::search(written);
-            live.shown = shown;
-            b.live = live;
-            b.sets = sets;
-            b
+            let live = Settings {
+                shown: write_text(b.live.shown, content),
+                ..b.live
+            };
+            with_text(b, live)
         }
-        35 => {
-            let pins = read_pin(b.pins, content);
-            b.pins = pins;
-            b
-        }
-        _ => {
-            let live = live_after(b.live, code, content);
-            b.live = live;
-            b
-        }
+        35 => Body {
+            pins: read_pin(b.pins, content),
+            ..b
+        },
+        _ => Body {
+            live: live_after(b.live, code, content),
+            ..b
+        },
     }
 }
 
@@ -217,8 +221,6 @@ fn body_after(mut b: Body, code: u8, content: &[u8]) -> Body
 pub fn effect_of(b: Body, p: Packet) -> Body
     ensures { Affects b p result }
 {
-    let code = p.kind % 64;
-    let bytes = p.content;
-    let n = lists::at_most(p.length, CONTENT);
-    body_after(b, code, &bytes[..n])
+    let n = p.length.min(CONTENT);
+    body_after(b, p.kind % 64, &p.content[..n])
 }

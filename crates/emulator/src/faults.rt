@@ -1,19 +1,5 @@
-// What is told on standard error. Where that cannot be written, nobody can be told.
+// What is told on standard error of what failed. Where that cannot be written, nobody can be told.
 use std::io;
-use std::io::ErrorKind;
-
-// A line of words.
-pub fn say<R: Eprint>(rt: &R, words: &str) {
-    let _ = rt.eprintln(words);
-}
-
-// Whether a write failed because nobody reads, which ends the program without a word.
-pub fn is_unread(written: &io::Result<()>) -> bool {
-    match written {
-        Ok(()) => false,
-        Err(why) => why.kind() == ErrorKind::BrokenPipe,
-    }
-}
 
 // The system's words for an error, without its number.
 fn reason(text: &str) -> &str {

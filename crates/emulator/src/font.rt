@@ -102,20 +102,12 @@ const LETTERS: [u64; 95] = [
     0x0000_0815_0200_0000, // ~
 ];
 
-// Codes 32 to 126 by the table, all others blank.
-fn letters() -> [u8; FONT] {
-    let mut font = [0u8; FONT];
-    let mut i: usize = 0;
-    while i < 760 {
-        font[256 + i] = ((LETTERS[i / 8] >> (56 - i % 8 * 8)) % 256) as u8;
-        i += 1;
-    }
-    font
-}
-
-// The font to lend: the letters, and code 214, the filled block that LCDproc writes beside its titles.
+// The font to lend: codes 32 to 126 by the table, code 214 the filled block that LCDproc writes beside its titles, all others blank.
 pub fn with_block() -> [u8; FONT] {
-    let mut font = letters();
-    lists::paste(&mut font, 1712, b"\x1f\x1f\x1f\x1f\x1f\x1f\x1f\x1f");
+    let mut font = [0u8; FONT];
+    for (letter, rows) in LETTERS.iter().zip(font[256..].chunks_exact_mut(8)) {
+        rows.copy_from_slice(&letter.to_be_bytes());
+    }
+    font[1712..1720].fill(0x1f);
     font
 }

@@ -1,29 +1,17 @@
 // The glass on standard error, dot by dot from the painted picture: a cell is three braille characters wide and two high,
 // inside a frame at the top left of the screen.
-ghost use Rattle.std.specs.Prelude.{◌<◌, ◌≤◌};
+ghost use Rattle.std.specs.Prelude.{◌<◌};
 
-use std::io;
+use std::{array, io};
 
 // Four lines of a cell, from the top: the upper half or the lower.
-#[derive(Clone, Copy)]
-struct Four {
-    a: u8,
-    b: u8,
-    c: u8,
-    d: u8,
-}
-
-fn four_of(picture: &[u8], cell: u8, half: u8) -> Four {
-    let first = lists::wide(cell) * 8 + lists::wide(half) * 4;
-    Four {
-        a: lists::at(picture, first),
-        b: lists::at(picture, first + 1),
-        c: lists::at(picture, first + 2),
-        d: lists::at(picture, first + 3),
-    }
+fn four_of(picture: &[u8], cell: u8, half: u8) -> [u8; 4] {
+    let first = usize::from(cell) * 8 + usize::from(half) * 4;
+    array::from_fn(|i| lists::at(picture, first + i))
 }
 
 // Two neighbours of a line, from the left: pair 0, 1 or 2. The left dot counts 2 and the right dot 1.
+// Kept: a shift by 4, 2 or 0 would ask that k is no more than 2, and say less.
 fn pair(line: u8, k: u8) -> u8 {
     match k {
         0 => line / 16 % 4,
@@ -32,6 +20,7 @@ fn pair(line: u8, k: u8) -> u8 {
     }
 }
 
+// Kept: a pair is two bits of the picture, and is no kind of anything.
 fn shown(pair: u8, left: u8, right: u8) -> u8 {
     match pair {
         1 => right,
@@ -42,9 +31,9 @@ fn shown(pair: u8, left: u8, right: u8) -> u8 {
 }
 
 // A braille character's number after 0x2800: from the top, its left dots count 1, 2, 4, 64 and its right dots 8, 16, 32, 128.
-fn braille(l: Four, k: u8) -> u8 {
-    let upper = shown(pair(l.a, k), 1, 8) | shown(pair(l.b, k), 2, 16);
-    let lower = shown(pair(l.c, k), 4, 32) | shown(pair(l.d, k), 64, 128);
+fn braille([a, b, c, d]: [u8; 4], k: u8) -> u8 {
+    let upper = shown(pair(a, k), 1, 8) | shown(pair(b, k), 2, 16);
+    let lower = shown(pair(c, k), 4, 32) | shown(pair(d, k), 64, 128);
     upper | lower
 }
 
@@ -75,10 +64,10 @@ const PARKING: usize = 8;
 const SCREEN: usize = 80 * CELL + PARKING;
 
 // Half a cell: the cursor is moved to its place, and three characters follow.
-fn half_text(l: Four, row: u8, column: u8) -> [u8; HALF] {
-    let x = braille(l, 0);
-    let y = braille(l, 1);
-    let z = braille(l, 2);
+fn half_text(lines: [u8; 4], row: u8, column: u8) -> [u8; HALF] {
+    let x = braille(lines, 0);
+    let y = braille(lines, 1);
+    let z = braille(lines, 2);
     [
         27,
         b'[',
@@ -112,33 +101,16 @@ fn with_cell(out: &mut [u8], i: usize, picture: &[u8], cell: u8)
     lists::paste(out, i * CELL + HALF, &lower);
 }
 
-fn with_cells(out: &mut [u8], picture: &[u8], list: &[u8], cells: usize)
-    requires { cells ≤ 80 }
-{
-    let mut i: usize = 0;
-    while i < cells {
-        with_cell(out, i, picture, lists::at(list, i));
-        i += 1;
-    }
-}
-
 // The listed cells as the picture has them, written at once, and the cursor parked below the frame.
+// Kept: by chunks of the text beside the list, what stands behind the last cell's would be found by a count again.
 pub fn draw<E: Print>(errors: &E, picture: &[u8], list: &[u8], listed: usize) -> io::Result<()> {
-    let cells = lists::at_most(listed, 80);
+    let cells = listed.min(80);
     let mut out = [0u8; SCREEN];
-    with_cells(&mut out, picture, list, cells);
-    lists::paste(&mut out, cells * CELL, b"\x1b[11;01H");
-    crate::put(errors, &out, cells * CELL + PARKING)
-}
-
-fn every_cell() -> [u8; 80] {
-    let mut list = [0u8; 80];
-    let mut i: usize = 0;
-    while i < 80 {
-        list[i] = i as u8;
-        i += 1;
+    for i in 0..cells {
+        with_cell(&mut out, i, picture, lists::at(list, i));
     }
-    list
+    lists::paste(&mut out, cells * CELL, b"\x1b[11;01H");
+    errors.write_all(&out[..cells * CELL + PARKING])
 }
 
 fn stroke<E: Print>(errors: &E) {
@@ -182,6 +154,6 @@ fn frame<E: Print>(errors: &E) {
 // The whole glass for the first time.
 pub fn draw_first<E: Print>(errors: &E, picture: &[u8]) -> io::Result<()> {
     frame(errors);
-    let list = every_cell();
-    draw(errors, picture, &list, 80)
+    let every_cell: [u8; 80] = array::from_fn(|i| i as u8);
+    draw(errors, picture, &every_cell, 80)
 }

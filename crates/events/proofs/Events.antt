@@ -11,7 +11,14 @@ use Rattle.panel.specs.declared.Pins.{Pins}
 use Rattle.ranges.proofs.InRange.{KeysParts, PinsParts}
 use Rattle.events.specs.Keys.{key_event, as_told}
 use Rattle.events.specs.Pins.{pin_moved}
-use Rattle.events.proofs.Compared.{beq_true, beq_false}
+
+beq_true : (b : Bool) → beq b true ≡ b
+beq_true true = refl
+beq_true false = refl
+
+beq_false : (b : Bool) → beq b false ≡ not b
+beq_false true = refl
+beq_false false = refl
 
 -- a key is as told where its bit is what it is told
 pub as_told_lem : (down : Bool) (number : ℕ) (k : Keys) → beq (is_on k.down number) down ≡ as_told down number k

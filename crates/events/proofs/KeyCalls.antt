@@ -18,7 +18,7 @@ use Rattle.panel.specs.State.{with_keys, with_body}
 use Rattle.ranges.specs.Ranges.{in_ranges}
 use Rattle.ranges.proofs.InRange.{panel_parts_lem, panel_whole, keys_parts_lem, keys_whole}
 use Rattle.answers.specs.declared.Check.{Check}
-use Rattle.answers.specs.declared.Checked.TheVariants.{Fails}
+use Rattle.std.specs.Prelude.{Err}
 use Rattle.answers.specs.declared.Said.{Said}
 use Rattle.answers.specs.Answer.{numbers_of, refused_call, accepted_call}
 use Rattle.answers.specs.Checks.{Test, checked_by}
@@ -31,7 +31,7 @@ abbrev pub key_checks : Panel → ℕ → Bool → List ℕ → List Test
 key_checks p number down reply = key_tests (in_ranges p) (length reply) number down p.body.keys
 
 module _ (p : Panel) (number : ℕ) (down : Bool) (reply : List ℕ) where
-  pub key_refused : (check : Check) (r : Said) → checked_by (key_checks p number down reply) ≡ Fails check → r ≡ refused_call p check → Presses p number down reply r reply
+  pub key_refused : (check : Check) (r : Said) → checked_by (key_checks p number down reply) ≡ Err check → r ≡ refused_call p check → Presses p number down reply r reply
   key_refused check r f e =
       (e ∙ sym (decided_fails (key_checks p number down reply) f _ _), sym (decided_fails (key_checks p number down reply) f _ _))
 

@@ -1,4 +1,3 @@
-pub mod Compared
 pub mod Events
 pub mod KeyCalls
 pub mod Theorems

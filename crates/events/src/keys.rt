@@ -1,26 +1,30 @@
 // Key events.
-ghost use Rattle.std.specs.Prelude.{◌≡◌, ◌≤◌};
-ghost use Rattle.events.specs.Keys.{key_event, mask_for, report_code, as_told, ReportsBy, Presses};
+ghost use Rattle.std.specs.Prelude.{◌≡◌, ◌≤◌, OnOk};
+ghost use Rattle.ranges.specs.Ranges.{in_ranges};
+ghost use Rattle.answers.specs.Checks.{checked_by};
+ghost use Rattle.events.specs.Keys.{key_event, mask_for, report_code, as_told, key_tests, ReportsBy, Presses};
 
-use answers::{Answer, Check, Checked, Said, also, nothing_taken};
+use answers::{Answer, Check, Said, also, nothing_taken};
 use packets::REPLY;
 use panel::{Keys, Masks, Panel};
 
+#[tactic(auto, using(lists::proofs::Laws::when_true, lists::proofs::Laws::when_false), unfolding(crate::specs::Keys::key_event))]
 fn after_event(k: Keys, number: u8, down: bool) -> Keys
     requires { number ≤ 5 }
     ensures { result ≡ key_event down number k }
 {
     if down {
-        return Keys {
+        Keys {
             down: bits::with_bit(k.down, number),
             pressed: bits::with_bit(k.pressed, number),
             ..k
-        };
-    }
-    Keys {
-        down: bits::without_bit(k.down, number),
-        released: bits::with_bit(k.released, number),
-        ..k
+        }
+    } else {
+        Keys {
+            down: bits::without_bit(k.down, number),
+            released: bits::with_bit(k.released, number),
+            ..k
+        }
     }
 }
 
@@ -33,6 +37,7 @@ fn mask_for(m: Masks, down: bool) -> u8
 
 // The byte that reports an event, by key number: up 1, enter 5, cancel 6, left 3, right 4, down 2 for a press, plus 6 for a
 // release.
+// Kept: the keys' numbers and their codes are the paper's, and C's (`report_code`).
 fn report_code(number: u8, down: bool) -> u8
     ensures { result ≡ report_code down number }
 {
@@ -44,13 +49,14 @@ fn report_code(number: u8, down: bool) -> u8
 fn as_told(k: Keys, number: u32, down: bool) -> bool
     ensures { result ≡ as_told down number k }
 {
-    if 255 < number {
-        return !down;
+    match u8::try_from(number) {
+        Ok(n) => bits::is_on(k.down, n) == down,
+        Err(_) => !down,
     }
-    bits::is_on(k.down, number as u8) == down
 }
 
 // The report of an event, if the mask asks for one, in the front of the reply buffer.
+#[tactic(auto, using(lists::proofs::Laws::when_true, lists::proofs::Laws::when_false))]
 fn report(mask: u8, number: u8, down: bool, reply: &mut [u8]) -> usize
     ensures { ReportsBy mask number down reply.old result reply.new }
 {
@@ -60,24 +66,28 @@ fn report(mask: u8, number: u8, down: bool, reply: &mut [u8]) -> usize
     packets::compose(reply, 128, &[report_code(number, down)])
 }
 
-// A key goes down or up. Its report, if the mask asks for one, is written into the front of the reply buffer. The checks stand
-// in the order of their numbers.
+// The checks of a key call, in the order of their numbers.
+fn checked(p: Panel, number: u32, down: bool, reply: usize) -> Result<(), Check>
+    ensures first { result ≡ checked_by (key_tests (in_ranges p) reply number down p.body.keys) }
+    ensures known { OnOk result (number ≤ 5) }
+{
+    let state = also(Ok(()), ranges::in_ranges(p), Check::StateRange);
+    let room = also(state, reply == REPLY, Check::ReplySize);
+    let known = also(room, number <= 5, Check::KeyOrPin);
+    also(known, !as_told(p.body.keys, number, down), Check::KeyAsTold)
+}
+
+// A key goes down or up. Its report, if the mask asks for one, is written into the front of the reply buffer.
 pub fn key(mut p: Panel, number: u32, down: bool, reply: &mut [u8]) -> Said
     ensures { Presses p number down reply.old result reply.new }
 {
-    let state = also(Checked::Passes, ranges::in_ranges(p), Check::StateRange);
-    let room = also(state, reply.len() == REPLY, Check::ReplySize);
-    let known = also(room, number <= 5, Check::KeyOrPin);
-    match also(known, !as_told(p.body.keys, number, down), Check::KeyAsTold) {
-        Checked::Fails(check) => nothing_taken(p, Answer::CallRefused(check), 0),
-        Checked::Passes => {
+    match checked(p, number, down, reply.len()) {
+        Err(check) => nothing_taken(p, Answer::CallRefused(check), 0),
+        Ok(()) => {
             let n = number as u8;
-            let keys = after_event(p.body.keys, n, down);
+            p.body.keys = after_event(p.body.keys, n, down);
             let mask = mask_for(p.body.live.masks, down);
             let written = report(mask, n, down, reply);
-            p.body.keys.down = keys.down;
-            p.body.keys.pressed = keys.pressed;
-            p.body.keys.released = keys.released;
             nothing_taken(p, Answer::Done(0), written)
         }
     }

@@ -1,44 +1,50 @@
 // Pin events.
-ghost use Rattle.std.specs.Prelude.{◌≡◌, ◌<◌};
-ghost use Rattle.events.specs.Pins.{pin_event, Moves};
+ghost use Rattle.std.specs.Prelude.{◌≡◌, ◌<◌, ◌≤◌, OnOk};
+ghost use Rattle.ranges.specs.Ranges.{in_ranges};
+ghost use Rattle.answers.specs.Checks.{checked_by};
+ghost use Rattle.events.specs.Pins.{pin_event, pin_tests, Moves};
 
-use answers::{Answer, Check, Checked, Said, also, nothing_taken};
+use answers::{Answer, Check, Said, also, nothing_taken};
 use panel::{Panel, Pins};
 
 // The level, and the edge if it changed.
+#[tactic(auto, using(lists::proofs::Laws::when_true, lists::proofs::Laws::when_false), unfolding(crate::specs::Pins::pin_moved))]
 fn after_event(p: Pins, number: u8, high: bool) -> Pins
     requires { number < 5 }
     ensures { result ≡ pin_event high number p }
 {
-    if bits::is_on(p.last, number) == high {
-        return p;
-    }
-    if high {
-        return Pins {
+    match (bits::is_on(p.last, number), high) {
+        (true, true) | (false, false) => p,
+        (false, true) => Pins {
             last: bits::with_bit(p.last, number),
             rose: bits::with_bit(p.rose, number),
             ..p
-        };
-    }
-    Pins {
-        last: bits::without_bit(p.last, number),
-        fell: bits::with_bit(p.fell, number),
-        ..p
+        },
+        (true, false) => Pins {
+            last: bits::without_bit(p.last, number),
+            fell: bits::with_bit(p.fell, number),
+            ..p
+        },
     }
 }
 
-// A pin's level as it is now. The checks stand in the order of their numbers.
+// The checks of a pin call, in the order of their numbers.
+fn checked(p: Panel, number: u32) -> Result<(), Check>
+    ensures first { result ≡ checked_by (pin_tests (in_ranges p) number) }
+    ensures known { OnOk result (number ≤ 4) }
+{
+    let state = also(Ok(()), ranges::in_ranges(p), Check::StateRange);
+    also(state, number <= 4, Check::KeyOrPin)
+}
+
+// A pin's level as it is now.
 pub fn pin(mut p: Panel, number: u32, high: bool) -> Said
     ensures { Moves p number high result }
 {
-    let state = also(Checked::Passes, ranges::in_ranges(p), Check::StateRange);
-    match also(state, number <= 4, Check::KeyOrPin) {
-        Checked::Fails(check) => nothing_taken(p, Answer::CallRefused(check), 0),
-        Checked::Passes => {
-            let pins = after_event(p.body.pins, number as u8, high);
-            p.body.pins.last = pins.last;
-            p.body.pins.fell = pins.fell;
-            p.body.pins.rose = pins.rose;
+    match checked(p, number) {
+        Err(check) => nothing_taken(p, Answer::CallRefused(check), 0),
+        Ok(()) => {
+            p.body.pins = after_event(p.body.pins, number as u8, high);
             nothing_taken(p, Answer::Done(0), 0)
         }
     }

@@ -5,6 +5,7 @@ use mathlib.Core.Bool.{Bool, true, false, ◌&&◌}
 use mathlib.Core.List.{List, []}
 use lib.ListN.{length}
 use borrow.Author.Tests.{eqb-true}
+use Rattle.std.specs.Prelude.{is_some}
 use Rattle.lists.specs.Tests.{when◌then◌else◌, ◌=?◌}
 use Rattle.table.specs.Table.{table, look_up}
 use Rattle.panel.specs.declared.Body.{Body}
@@ -39,6 +40,6 @@ module _ (code : ℕ) (bare : Bare code) (d : List ℕ) where
   unfolding reply_data when◌then◌else◌
   bare_reply b = rw (bare.not_0, bare.not_1, bare.not_3, bare.not_10, bare.not_24, bare.not_35)
 
-  pub bare_can : can_reply code d ≡ ((look_up code table).known && (length d =? 0))
+  pub bare_can : can_reply code d ≡ (is_some (look_up code table) && (length d =? 0))
   unfolding can_reply when◌then◌else◌
   bare_can = rw (bare.not_0, bare.not_1, bare.not_3, bare.not_10, bare.not_24, bare.not_35)

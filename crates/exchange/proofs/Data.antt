@@ -1,12 +1,13 @@
 -- The data that a panel in its ranges replies: a host takes them for such, and they fit a packet.
 use Prim.Native.Nat.{ℕ, ◌-◌, ◌^◌, ◌<◌, ◌≤◌}
-use mathlib.Core.Path.{◌≡◌, refl, ◌∙◌}
+use mathlib.Core.Path.{◌≡◌, refl, ◌∙◌, subst}
 use mathlib.Core.Bool.{Bool, true, false, not, ◌&&◌, ◌||◌, or-true}
 use mathlib.Core.List.{List, [], ◌∷◌}
 use native.Mathlib.Omega.{arith}
 use borrow.Author.Tests.{eq-eqb, le-leb, leb-false, ltb-false, not-false}
 use lib.ListN.{length, get_or, get_or-eq_default}
 use lib.Pow.{pow_mono}
+use Rattle.std.specs.Prelude.{Option, Some, Ok}
 use Rattle.lists.specs.Tests.{when◌then◌else◌, ◌<?◌, ◌≤?◌, ◌=?◌, all, all_at_most}
 use Rattle.lists.proofs.Laws.{when_either}
 use Rattle.lists.proofs.Firsts.{none_before}
@@ -16,7 +17,6 @@ use Rattle.glyphs.specs.Glyphs.{eight_from}
 use Rattle.glyphs.proofs.Every.{Passes, every_at, all_every, every_all}
 use Rattle.table.specs.declared.Row.{Row}
 use Rattle.table.specs.Table.{table, look_up, config_allowed}
-use Rattle.verdict.specs.declared.Verdict.TheVariants.{Allowed}
 use Rattle.verdict.specs.Verdict.{in_range, first_out, verdict_by, verdict_of}
 use Rattle.verdict.proofs.Reasons.{Fits, Seen, together, see}
 use Rattle.panel.specs.declared.Panel.{Panel}
@@ -24,20 +24,32 @@ use Rattle.ranges.specs.Ranges.{in_ranges}
 use Rattle.ranges.proofs.InRange.{panel_parts_lem, settings_parts_lem, keys_parts_lem, pins_parts_lem}
 use Rattle.statebytes.specs.State.{PanelFits}
 use Rattle.replies.specs.Replies.{memory, bit, edges, pin_reply, reply_data}
-use Rattle.reading.specs.Reading.{same_run, is_memory, is_poll, is_wired, is_pin, can_reply}
+use Rattle.reading.specs.Reading.{is_memory, is_poll, is_wired, is_pin, can_reply}
 use Rattle.exchange.proofs.Codes.{by_code, bare_reply, bare_can}
 
 -- what is known of a command that is allowed: its row fits, and each data byte is in its range
-pub record Fitting (r : Row) (d : List ℕ) : Type 0 where
-  pub row : Fits r d
+pub record Fitting (o : Option Row) (d : List ℕ) : Type 0 where
+  pub fits : Fits o d
+  pub each : (i : ℕ) → i < length d → in_range fits.row.rule d i ≡ true
+
+pub fitting : (o : Option Row) (d : List ℕ) → verdict_by o d ≡ Ok tt → Fitting o d
+unfolding first_out
+fitting o d v = go (see o d (Ok tt) v)
+  where
+    go : Seen o d (Ok tt) → Fitting o d
+    go (together f h e) = record { fits = f; each = λ i l. not-false _ (none_before (λ j. not (in_range f.row.rule d j)) (length d) i (omega arith)) }
+
+-- the same of a row that is known
+pub record Known (r : Row) (d : List ℕ) : Type 0 where
+  pub enough : r.shortest ≤ length d
+  pub few : length d ≤ r.longest
   pub each : (i : ℕ) → i < length d → in_range r.rule d i ≡ true
 
-pub fitting : (r : Row) (d : List ℕ) → verdict_by r d ≡ Allowed → Fitting r d
-unfolding first_out
-fitting r d v = go (see r d Allowed v)
-  where
-    go : Seen r d Allowed → Fitting r d
-    go (together f h e) = record { row = f; each = λ i l. not-false _ (none_before (λ j. not (in_range r.rule d j)) (length d) i (omega arith)) }
+pub known : (r : Row) (d : List ℕ) → verdict_by (Some r) d ≡ Ok tt → Known r d
+known r d v =
+    let f = fitting (Some r) d v in
+    let same : f.fits.row ≡ r = let w = f.fits.command in cc in
+    subst (λ (x : Row). Known x d) same (record { enough = f.fits.enough; few = f.fits.few; each = f.each })
 
 -- data of one byte
 one_byte : (d : List ℕ) → length d ≡ 1 → d ≡ get_or d 0 0 ∷ []
@@ -61,7 +73,7 @@ bit_at_most false = omega arith
 
 module _ (p : Panel) (ranges : in_ranges p ≡ true) (fits : PanelFits p) where
   -- 10: the bytes of glyphs are their rows
-  memory_can : (address : ℕ) → verdict_of 10 (address ∷ []) ≡ Allowed → is_memory (address ∷ memory p.body.live.shown address) ≡ true
+  memory_can : (address : ℕ) → verdict_of 10 (address ∷ []) ≡ Ok tt → is_memory (address ∷ memory p.body.live.shown address) ≡ true
   unfolding is_memory memory
   memory_can address v =
       let live = settings_parts_lem p.body.live (panel_parts_lem p ranges).live in
@@ -103,35 +115,35 @@ module _ (p : Panel) (ranges : in_ranges p ≡ true) (fits : PanelFits p) where
       (λ _. rw (le-leb _ 7 (few_edges pin)) (passes_at config_allowed refl p.body.live.wires.configs live.configs pin))
       (λ e. let h : 5 ≤ pin = leb-false pin 4 e in rw (no_edges pin h, no_config pin h))
 
-  pin_can : (pin : ℕ) → verdict_of 35 (pin ∷ []) ≡ Allowed → is_pin (pin_reply p.body pin) ≡ true
+  pin_can : (pin : ℕ) → verdict_of 35 (pin ∷ []) ≡ Ok tt → is_pin (pin_reply p.body pin) ≡ true
   unfolding is_pin
   pin_can pin v =
       let live = settings_parts_lem p.body.live (panel_parts_lem p ranges).live in
       rw (v, passes_at (λ x. x ≤? 100) refl p.body.live.wires.levels live.levels pin) (wired_can pin)
 
   -- A panel in its ranges replies what can be replied.
-  pub reply_can : (code : ℕ) (d : List ℕ) → verdict_of code d ≡ Allowed → can_reply code (reply_data code d p.body) ≡ true
-  unfolding can_reply reply_data same_run when◌then◌else◌ look_up
+  pub reply_can : (code : ℕ) (d : List ℕ) → verdict_of code d ≡ Ok tt → can_reply code (reply_data code d p.body) ≡ true
+  unfolding can_reply reply_data when◌then◌else◌ look_up
   reply_can code d v =
-      by_code (λ (c : ℕ). verdict_of c d ≡ Allowed → can_reply c (reply_data c d p.body) ≡ true) code
+      by_code (λ (c : ℕ). verdict_of c d ≡ Ok tt → can_reply c (reply_data c d p.body) ≡ true) code
       (λ _. refl)
       (λ _. refl)
       (λ _. eq-eqb _ 16 fits.1.1.1.1.1.0)
-      (λ w. memory_can (get_or d 0 0) (rw (← one_byte d (alone (look_up 10 table) refl refl w)) w))
+      (λ w. memory_can (get_or d 0 0) (rw (← one_byte d (alone _ refl refl w)) w))
       (λ _. poll_can)
-      (λ w. pin_can (get_or d 0 0) (rw (← one_byte d (alone (look_up 35 table) refl refl w)) w))
-      (λ bare w. rw (bare_reply code bare d p.body) (bare_can code bare [] ∙ rw (fitting (look_up code table) d w).row.command))
+      (λ w. pin_can (get_or d 0 0) (rw (← one_byte d (alone _ refl refl w)) w))
+      (λ bare w. rw (bare_reply code bare d p.body) (bare_can code bare [] ∙ rw (fitting (look_up code table) d w).fits.command))
       v
     where
-      alone : (r : Row) → r.shortest ≡ 1 → r.longest ≡ 1 → verdict_by r d ≡ Allowed → length d ≡ 1
-      alone r a b w = let f = (fitting r d w).row in omega (arith, f.enough, f.few)
+      alone : (r : Row) → r.shortest ≡ 1 → r.longest ≡ 1 → verdict_by (Some r) d ≡ Ok tt → length d ≡ 1
+      alone r a b w = let f = known r d w in omega (arith, f.enough, f.few)
 
   -- The reply fits a packet.
-  pub reply_short : (code : ℕ) (d : List ℕ) → verdict_of code d ≡ Allowed → length (reply_data code d p.body) ≤ 22
+  pub reply_short : (code : ℕ) (d : List ℕ) → verdict_of code d ≡ Ok tt → length (reply_data code d p.body) ≤ 22
   unfolding reply_data memory when◌then◌else◌ look_up
   reply_short code d v =
-      by_code (λ (c : ℕ). verdict_of c d ≡ Allowed → length (reply_data c d p.body) ≤ 22) code
-      (λ w. (fitting (look_up 0 table) d w).row.few)
+      by_code (λ (c : ℕ). verdict_of c d ≡ Ok tt → length (reply_data c d p.body) ≤ 22) code
+      (λ w. (known _ d w).few)
       (λ _. omega arith)
       (λ _. omega (arith, fits.1.1.1.1.1))
       (λ _. when_either (λ (x : List ℕ). length (get_or d 0 0 ∷ x) ≤ 22) (get_or d 0 0 <? 128) _ _ (λ _. omega arith) (λ _. omega arith))

@@ -1,11 +1,12 @@
 -- What a host reads, some panel writes.
 use Prim.Native.Nat.{ℕ, ◌+◌, ◌-◌, ◌<◌, ◌≤◌}
-use mathlib.Core.Path.{◌≡◌, refl, sym, subst}
+use mathlib.Core.Path.{◌≡◌, sym, subst}
 use mathlib.Core.Bool.{true, false}
 use mathlib.Core.List.{List, [], ◌∷◌}
 use native.Mathlib.Omega.{arith}
 use borrow.Author.Tests.{eqb-true, eqb-false, ltb-true, ltb-false, leb-true, leb-false}
 use lib.ListN.{length, drop, get_or}
+use Rattle.std.specs.Prelude.{Option, Some, None, option_map}
 use Rattle.lists.specs.Tests.{when◌then◌else◌, ◌<?◌, ◌≤?◌, ◌=?◌}
 use Rattle.lists.proofs.Laws.{when_either}
 use Rattle.packets.specs.Packet.{content_most, packet_bytes}
@@ -14,9 +15,9 @@ use Rattle.packets.specs.Judge.{length_byte}
 use Rattle.glyphs.proofs.Flat.{all_elements}
 use Rattle.events.specs.Keys.{press_code}
 use Rattle.reading.specs.declared.Meaning.{Meaning}
-use Rattle.reading.specs.declared.Meaning.TheVariants.{Unreadable, Reply, ErrorReply}
+use Rattle.reading.specs.declared.Meaning.TheVariants.{Reply, ErrorReply}
 use Rattle.reading.specs.declared.Reading.{Reading}
-use Rattle.reading.specs.Reading.{can_reply, key_pressed, key_reported, meaning_of, is_one_packet, data_in, values_for, reading_with, reading_by, read_of}
+use Rattle.reading.specs.Reading.{can_reply, key_pressed, key_reported, meaning_of, is_one_packet, data_in, values_for, reading_with, read_of}
 use Rattle.exchange.specs.Writes.{error_meant, report_meant, Writes}
 use Rattle.exchange.proofs.Codes.{by_code}
 use Rattle.exchange.proofs.AreBytes.{drop-bytes, take-bytes}
@@ -42,11 +43,9 @@ reply_some code small d few bytes can =
     can
 
 -- a packet with this meaning is written, where it has one
-abbrev Found : ℕ → List ℕ → Meaning → Type 0
-Found kind d m = (m ≡ Unreadable → ⊥) → Writes (reading_with m (values_for m d)) (packet_bytes kind d)
-
-none_found : (kind : ℕ) (d : List ℕ) → Found kind d Unreadable
-none_found kind d n = absurd (n refl)
+abbrev Found : ℕ → List ℕ → Option Meaning → Type 0
+Found kind d None = Unit
+Found kind d (Some m) = Writes (reading_with m (values_for m d)) (packet_bytes kind d)
 
 -- each report, by its code
 module _ (code : ℕ) (low : 1 ≤ code) where
@@ -64,31 +63,30 @@ module _ (code : ℕ) (low : 1 ≤ code) where
 key_found : (code : ℕ) → Found 128 (code ∷ []) (key_reported code)
 unfolding key_reported
 key_found code =
-    let none = none_found 128 (code ∷ []) in
-    when_either (Found 128 (code ∷ [])) (code =? 0) _ _ (λ _. none)
+    when_either (Found 128 (code ∷ [])) (code =? 0) _ _ (λ _. tt)
     (λ e.
     let some : (code ≡ 0 → ⊥) = eqb-false _ _ e in
-    when_either (Found 128 (code ∷ [])) (code ≤? 6) _ _ (λ f _. press_some code (omega arith) (leb-true _ _ f))
-    (λ f. when_either (Found 128 (code ∷ [])) (code ≤? 12) _ _ (λ g _. release_some code (omega arith) (leb-false _ _ f) (leb-true _ _ g)) (λ _. none)))
+    when_either (Found 128 (code ∷ [])) (code ≤? 6) _ _ (λ f. press_some code (omega arith) (leb-true _ _ f))
+    (λ f. when_either (Found 128 (code ∷ [])) (code ≤? 12) _ _ (λ g. release_some code (omega arith) (leb-false _ _ f) (leb-true _ _ g)) (λ _. tt)))
 
 -- each packet, by its type
 module _ (kind : ℕ) (d : List ℕ) (byte : kind < 256) (few : length d ≤ content_most) (small : Bytes d) where
-  reply_found : 64 ≤ kind → kind < 128 → Found kind d (when can_reply (kind - 64) d then Reply (kind - 64) else Unreadable)
+  reply_found : 64 ≤ kind → kind < 128 → Found kind d (when can_reply (kind - 64) d then Some (Reply (kind - 64)) else None)
   reply_found low high =
       let e : 64 + (kind - 64) ≡ kind = omega arith in
       when_either (Found kind d) (can_reply (kind - 64) d) _ _
-      (λ can _. subst (λ (k : ℕ). Writes (reading_with (Reply (kind - 64)) d) (packet_bytes k d)) e (reply_some (kind - 64) (omega arith) d few small can))
-      (λ _. none_found kind d)
+      (λ can. subst (λ (k : ℕ). Writes (reading_with (Reply (kind - 64)) d) (packet_bytes k d)) e (reply_some (kind - 64) (omega arith) d few small can))
+      (λ _. tt)
 
-  report_found : kind ≡ 128 → Found kind d (when length d =? 1 then key_reported (get_or d 0 0) else Unreadable)
+  report_found : kind ≡ 128 → Found kind d (when length d =? 1 then key_reported (get_or d 0 0) else None)
   report_found e =
       when_either (Found kind d) (length d =? 1) _ _
       (λ one. subst (λ (k : ℕ). Found k d (key_reported (get_or d 0 0))) (sym e)
       (subst (λ (x : List ℕ). Found 128 x (key_reported (get_or d 0 0))) (all_elements 0 d 0 1 (eqb-true _ _ one)) (key_found (get_or d 0 0))))
-      (λ _. none_found kind d)
+      (λ _. tt)
 
-  error_found : 192 < kind → length d ≡ 0 → Found kind d (ErrorReply (kind - 192))
-  error_found low none _ =
+  error_found : 192 < kind → length d ≡ 0 → Found kind d (Some (ErrorReply (kind - 192)))
+  error_found low none =
       let e : 192 + (kind - 192) ≡ kind = omega arith in
       let error : Writes (error_meant (kind - 192)) (packet_bytes (192 + (kind - 192)) []) = error_some (kind - 192) (omega arith) (λ (z : kind - 192 ≡ 0). omega arith) in
       subst (λ (x : List ℕ). Writes (error_meant (kind - 192)) (packet_bytes kind x)) (no_data d none)
@@ -97,20 +95,26 @@ module _ (kind : ℕ) (d : List ℕ) (byte : kind < 256) (few : length d ≤ con
   packet_found_lem : Found kind d (meaning_of kind d)
   unfolding meaning_of
   packet_found_lem =
-      let none = none_found kind d in
-      when_either (Found kind d) (kind <? 64) _ _ (λ _. none)
+      when_either (Found kind d) (kind <? 64) _ _ (λ _. tt)
       (λ e64. when_either (Found kind d) (kind <? 128) _ _ (λ e. reply_found (ltb-false _ _ e64) (ltb-true _ _ e))
       (λ e128. when_either (Found kind d) (kind =? 128) _ _ (λ e. report_found (eqb-true _ _ e))
-      (λ e. when_either (Found kind d) (kind ≤? 192) _ _ (λ _. none)
-      (λ e192. when_either (Found kind d) (length d =? 0) _ _ (λ e. error_found (leb-false _ _ e192) (eqb-true _ _ e)) (λ _. none)))))
+      (λ e. when_either (Found kind d) (kind ≤? 192) _ _ (λ _. tt)
+      (λ e192. when_either (Found kind d) (length d =? 0) _ _ (λ e. error_found (leb-false _ _ e192) (eqb-true _ _ e)) (λ _. tt)))))
 
 -- bytes that are read are those of a packet
-pub read_writes : (bytes : List ℕ) → Bytes bytes → ((read_of bytes).meaning ≡ Unreadable → ⊥) → Writes (read_of bytes) bytes
+pub read_writes : (bytes : List ℕ) → Bytes bytes → (m : Reading) → read_of bytes ≡ Some m → Writes m bytes
 unfolding read_of
-read_writes bytes small =
-    when_either (λ (r : Reading). (r.meaning ≡ Unreadable → ⊥) → Writes r bytes) (is_one_packet bytes) _ _
-    (λ one n.
+read_writes bytes small m =
+    when_either (λ (r : Option Reading). r ≡ Some m → Writes m bytes) (is_one_packet bytes) _ _
+    (λ one e.
+    let d = data_in bytes in
     let p = one_packet bytes small one in
     let values = take-bytes (length_byte bytes) (drop 2 bytes) (drop-bytes 2 bytes small) in
-    subst (λ (x : List ℕ). Writes (reading_by (get_or bytes 0 0) (data_in bytes)) x) (sym p.1) (packet_found_lem (get_or bytes 0 0) (data_in bytes) (small 0) p.0 values n))
-    (λ _ n. absurd (n refl))
+    subst (λ (x : List ℕ). Writes m x) (sym p.1) (go (get_or bytes 0 0) d (meaning_of (get_or bytes 0 0) d) (packet_found_lem (get_or bytes 0 0) d (small 0) p.0 values) e))
+    (λ _ e. cc)
+  where
+    go : (kind : ℕ) (d : List ℕ) (o : Option Meaning) → Found kind d o → option_map (λ m. reading_with m (values_for m d)) o ≡ Some m → Writes m (packet_bytes kind d)
+    go kind d None f e = cc
+    go kind d (Some x) f e =
+        let same : reading_with x (values_for x d) ≡ m = cc in
+        subst (λ (r : Reading). Writes r (packet_bytes kind d)) same f

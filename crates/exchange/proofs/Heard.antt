@@ -10,6 +10,7 @@ use native.Mathlib.Omega.{arith}
 use borrow.Author.Tests.{eq-eqb, le-leb, lt-ltb}
 use lib.ListN.{length, take, drop, length-take, drop_of_length-le}
 use lib.Seq.{take_all, get_or-take}
+use Rattle.std.specs.Prelude.{Result, Ok}
 use Rattle.lists.specs.Tests.{when◌then◌else◌}
 use Rattle.lists.proofs.Laws.{when_true}
 use Rattle.packets.specs.declared.Judgement.TheVariants.{Wait}
@@ -23,10 +24,9 @@ use Rattle.framing.specs.declared.Scanned.{Scanned}
 use Rattle.framing.specs.Scan.{scan, scanned_of, piece_most, Scans}
 use Rattle.framing.proofs.Steps.{takes, finds}
 use Rattle.filing.specs.declared.Record.{Record}
-use Rattle.verdict.specs.declared.Verdict.{Verdict}
-use Rattle.verdict.specs.declared.Verdict.TheVariants as verdicts
+use Rattle.verdict.specs.declared.Objection.{Objection}
 use Rattle.verdict.specs.declared.Reason.{Reason}
-use Rattle.verdict.specs.Verdict.{verdict_of}
+use Rattle.verdict.specs.Verdict.{refused, verdict_of}
 use Rattle.panel.specs.declared.Panel.{Panel}
 use Rattle.panel.specs.State.{line_holding}
 use Rattle.ranges.specs.Ranges.{in_ranges}
@@ -110,27 +110,27 @@ module _ (p : Panel) (l : Lent) (kind : ℕ) (content : List ℕ) (ranges : in_r
 
   module _ (small : kind < 64) (register : List Record) (r : Said) (picture' list' reply' : List ℕ) (register' : List Record) (called : LineCall p l register r picture' list' reply' register') where
     -- A command is answered by the verdict on its data.
-    pub composed_answer : {v : Verdict} → verdict_of kind content ≡ v → r.answer ≡ ruling v kind
+    pub composed_answer : {v : Result (Unit {0}) Objection} → verdict_of kind content ≡ v → r.answer ≡ ruling v kind
     unfolding answer_to
     composed_answer e =
         ap (λ (s : Said). s.answer) called.0 ∙ ap (λ (h : Heard). h.answer) composed_heard
-        ∙ when_true _ _ _ (lt-ltb kind 64 small) ∙ ap (λ (d : List ℕ). ruling (verdict_of kind d) kind) (content_back kind content) ∙ ap (λ (v : Verdict). ruling v kind) e
+        ∙ when_true _ _ _ (lt-ltb kind 64 small) ∙ ap (λ (d : List ℕ). ruling (verdict_of kind d) kind) (content_back kind content) ∙ ap (λ (v : Result (Unit {0}) Objection). ruling v kind) e
 
     -- A command that is allowed is done, and its reply written.
-    pub composed_done : verdict_of kind content ≡ verdicts.Allowed → r.answer ≡ Done kind
+    pub composed_done : verdict_of kind content ≡ Ok tt → r.answer ≡ Done kind
     unfolding ruling
     composed_done v = composed_answer v
 
-    pub composed_replied : PanelFits p → verdict_of kind content ≡ verdicts.Allowed → replied r reply' ≡ packet_bytes (64 + kind) (reply_data kind content p.body)
+    pub composed_replied : PanelFits p → verdict_of kind content ≡ Ok tt → replied r reply' ≡ packet_bytes (64 + kind) (reply_data kind content p.body)
     composed_replied fits v =
         let same : reply_data kind (data_heard p l) p.body ≡ reply_data kind content p.body = ap (λ (d : List ℕ). reply_data kind d p.body) composed_data in
         done_writes p l register r picture' list' reply' register' called kind (composed_done v) (rw same (reply_short p ranges fits kind content v))
         ∙ ap (packet_bytes (64 + kind)) same
 
     -- A command that is not allowed is refused, and its error reply written.
-    pub composed_refused : (reason : Reason) (place : ℕ) → verdict_of kind content ≡ verdicts.Refused reason place → r.answer ≡ Refused kind reason place
+    pub composed_refused : (reason : Reason) (place : ℕ) → verdict_of kind content ≡ refused reason place → r.answer ≡ Refused kind reason place
     unfolding ruling
     composed_refused reason place v = composed_answer v
 
-    pub composed_error : (reason : Reason) (place : ℕ) → verdict_of kind content ≡ verdicts.Refused reason place → replied r reply' ≡ packet_bytes (192 + kind) []
+    pub composed_error : (reason : Reason) (place : ℕ) → verdict_of kind content ≡ refused reason place → replied r reply' ≡ packet_bytes (192 + kind) []
     composed_error reason place v = refused_writes p l register r picture' list' reply' register' called kind reason place (composed_refused reason place v)

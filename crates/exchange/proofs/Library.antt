@@ -6,12 +6,12 @@ use mathlib.Core.Bool.{true}
 use mathlib.Core.List.{List, []}
 use native.Mathlib.Omega.{arith}
 use lib.ListN.{length, take, get_or}
+use Rattle.std.specs.Prelude.{Option, Some, None, Result, Ok, Err}
 use Rattle.shapes.specs.Shape.{Bytes, bytes}
 use Rattle.packets.specs.Packet.{packet_bytes}
 use Rattle.packets.specs.Hold.{held}
 use Rattle.filing.specs.declared.Record.{Record}
-use Rattle.verdict.specs.declared.Verdict.{Verdict}
-use Rattle.verdict.specs.declared.Verdict.TheVariants as verdicts
+use Rattle.verdict.specs.declared.Objection.{Objection}
 use Rattle.verdict.specs.Verdict.{verdict_of}
 use Rattle.panel.specs.declared.Panel.{Panel}
 use Rattle.ranges.specs.Ranges.{in_ranges}
@@ -21,16 +21,17 @@ use Rattle.answers.specs.Answer.{numbers_of, no_counts}
 use Rattle.saidbytes.specs.Says.{said_bytes, bytes_said}
 use Rattle.listen.specs.Reply.{ruling}
 use Rattle.linecall.specs.Line.{Lent, LineCall}
-use Rattle.composer.specs.declared.Composing.{Composing}
-use Rattle.composer.specs.declared.Composing.TheVariants.{BufferSize, Refused, Written}
+use Rattle.composer.specs.declared.Written.{Written}
+use Rattle.composer.specs.declared.ComposeError.{ComposeError}
+use Rattle.composer.specs.declared.ComposeError.TheVariants.{BufferSize, Refused}
 use Rattle.composer.specs.Compose.{outcome_by, composing, ComposesFor}
 use Rattle.composer.proofs.Verdicts.{allowed_short}
 use Rattle.composer.proofs.Ways.{written_allowed, written_is}
 use Rattle.host.specs.Calls.{compose_numbers, packet_length, ComposeBytes}
-use Rattle.hostreads.specs.Reads.{read_number, reading_bytes, ReadBytes}
+use Rattle.hostreads.specs.Reads.{read_number, reading_bytes, bytes_read, ReadBytes}
 use Rattle.reading.specs.declared.Reading.{Reading}
 use Rattle.reading.specs.Reading.{read_of}
-use Rattle.exchange.specs.Writes.{Writes, in_reply, in_refusal, in_report}
+use Rattle.exchange.specs.Writes.{Writes}
 use Rattle.exchange.specs.Heard.{RightSizes, IsHeard}
 use Rattle.exchange.proofs.Heard.{composed_answer}
 use Rattle.exchange.proofs.Refusals.{composed_outcome}
@@ -41,19 +42,19 @@ pub composed_is_heard : (code : ℕ) (d packet packet' said' : List ℕ) → Com
 unfolding compose_numbers packet_length said_bytes bytes numbers_of
 composed_is_heard code d packet packet' said' w = go (composing packet code d) refl
   where
-    go : (c : Composing) → composing packet code d ≡ c → IsHeard code d (take (get_or said' 12 0) packet')
-    go BufferSize e = let n : ◌≡◌ {A = ℕ} 3 21 = rw e at w.1.0 in absurd (omega arith)
-    go (Refused command reason place) e = let n : ◌≡◌ {A = ℕ} 3 4 = rw e at w.1.0 in absurd (omega arith)
-    go (Written command size) e =
-        let c : ComposesFor packet code d (Written command size) packet' = (sym e, w.0) in
-        let few = allowed_short code d (written_allowed packet code d command size packet' c) in
-        let n : get_or said' 12 0 ≡ size = ap (λ (l : List ℕ). get_or l 12 0) (rw e at w.1.1) ∙ omega (arith, (written_is packet code d command size packet' c).1) in
-        rw n (theorems.composed_is_heard packet code d command size packet' c)
+    go : (c : Result Written ComposeError) → composing packet code d ≡ c → IsHeard code d (take (get_or said' 12 0) packet')
+    go (Err BufferSize) e = let n : ◌≡◌ {A = ℕ} 3 21 = rw e at w.1.0 in absurd (omega arith)
+    go (Err (Refused command reason place)) e = let n : ◌≡◌ {A = ℕ} 3 4 = rw e at w.1.0 in absurd (omega arith)
+    go (Ok r) e =
+        let c : ComposesFor packet code d (Ok r) packet' = (sym e, w.0) in
+        let few = allowed_short code d (written_allowed packet code d r packet' c) in
+        let n : get_or said' 12 0 ≡ r.size = ap (λ (l : List ℕ). get_or l 12 0) (rw e at w.1.1) ∙ omega (arith, (written_is packet code d r packet' c).1) in
+        rw n (theorems.composed_is_heard packet code d r packet' c)
 
-same_numbers : (code : ℕ) (d : List ℕ) (v : Verdict) → code < 64 → compose_numbers (outcome_by v code d) ≡ numbers_of (ruling v code)
+same_numbers : (code : ℕ) (d : List ℕ) (v : Result (Unit {0}) Objection) → code < 64 → compose_numbers (outcome_by v code d) ≡ numbers_of (ruling v code)
 unfolding compose_numbers outcome_by ruling
-same_numbers code d verdicts.Allowed small = let m : code % 64 ≡ code = omega arith in rw m
-same_numbers code d (verdicts.Refused reason place) small = let m : code % 64 ≡ code = omega arith in rw m
+same_numbers code d (Ok _) small = let m : code % 64 ≡ code = omega arith in rw m
+same_numbers code d (Err o) small = let m : code % 64 ≡ code = omega arith in rw m
 
 -- Of a code of 0 to 63 and at most 22 data bytes, the composer says the number, command, reason and place that the line call of a
 -- panel in its ranges that holds nothing says of their packet.
@@ -71,19 +72,12 @@ says_as_the_panel code d packet n packet' said' w size small few p l ranges empt
 
 -- What some panel in its ranges writes, the reader returns 3 for, and its 26 bytes are what the panel meant.
 pub written_is_read : (m : Reading) (given : List ℕ) (n : ℕ) (out' : List ℕ) → Writes m given → ReadBytes given n out' → (n ≡ 3) × (out' ≡ reading_bytes m)
-unfolding read_number
-written_is_read m given n out' w r = (r.0 ∙ ap (λ (x : Reading). read_number x.meaning) e ∙ three w, r.1 ∙ ap reading_bytes e)
-  where
-    e : read_of given ≡ m
-    e = theorems.written_is_read m given w
-
-    three : Writes m given → read_number m.meaning ≡ 3
-    three (in_reply p l register r picture' list' reply' register' c command a means is) = rw (← means)
-    three (in_refusal p l register r picture' list' reply' register' c command reason place a means is) = rw (← means)
-    three (in_report p number down reply r reply' c a some means is) = rw (← means)
+written_is_read m given n out' w r = let e = theorems.written_is_read m given w in (r.0 ∙ ap read_number e, r.1 ∙ ap bytes_read e)
 
 -- What the reader returns 3 for, some panel in its ranges writes, and means what the 26 bytes say.
-pub read_is_written : (given out' : List ℕ) → Bytes given → ReadBytes given 3 out' → Writes (read_of given) given × (out' ≡ reading_bytes (read_of given))
-unfolding read_number
-read_is_written given out' small r =
-    (theorems.read_is_written given small (λ e. let n : ◌≡◌ {A = ℕ} 3 29 = r.0 ∙ ap read_number e in absurd (omega arith)), r.1)
+pub read_is_written : (given out' : List ℕ) → Bytes given → ReadBytes given 3 out' → (m : Reading) × ((read_of given ≡ Some m) × Writes m given × (out' ≡ reading_bytes m))
+read_is_written given out' small r = go (read_of given) refl
+  where
+    go : (o : Option Reading) → read_of given ≡ o → (m : Reading) × ((read_of given ≡ Some m) × Writes m given × (out' ≡ reading_bytes m))
+    go None e = let n : ◌≡◌ {A = ℕ} 3 29 = r.0 ∙ ap read_number e in absurd (omega arith)
+    go (Some m) e = (m, (e, theorems.read_is_written given small m e, r.1 ∙ ap bytes_read e))

@@ -6,6 +6,7 @@ use mathlib.Core.List.{List, []}
 use native.Mathlib.Omega.{arith}
 use borrow.Author.Tests.{eq-eqb, le-leb}
 use lib.ListN.{length, replicate, length-replicate}
+use Rattle.std.specs.Prelude.{Ok}
 use Rattle.lists.proofs.Laws.{when_true}
 use Rattle.packets.specs.Packet.{content_most, reply_size, packet_bytes}
 use Rattle.packets.specs.Hold.{held}
@@ -13,8 +14,7 @@ use Rattle.shapes.specs.Shape.{Bytes}
 use Rattle.filing.specs.declared.Record.{Record}
 use Rattle.filing.specs.Filing.{blank, register_records}
 use Rattle.verdict.specs.declared.Reason.{Reason}
-use Rattle.verdict.specs.declared.Verdict.TheVariants as verdicts
-use Rattle.verdict.specs.Verdict.{verdict_of}
+use Rattle.verdict.specs.Verdict.{refused, verdict_of}
 use Rattle.picture.specs.Draw.{cell_count, picture_size, font_size}
 use Rattle.panel.specs.declared.Panel.{Panel}
 use Rattle.replies.specs.Replies.{reply_data}
@@ -62,7 +62,7 @@ module _ (p : Panel) (possible : Possible p) (empty : held p.line.hold ≡ []) (
   made = record { possible = possible; piece = packet_bytes_lem code d (omega arith) few bytes; records = sym length-register; called = line_made p l register }
 
   -- a command that is allowed, and the data that it then replies
-  pub some_reply : verdict_of code d ≡ verdicts.Allowed → (values : List ℕ) → reply_data code d p.body ≡ values → Writes (reading_with (Reply code) values) (packet_bytes (64 + code) values)
+  pub some_reply : verdict_of code d ≡ Ok tt → (values : List ℕ) → reply_data code d p.body ≡ values → Writes (reading_with (Reply code) values) (packet_bytes (64 + code) values)
   some_reply v values e =
       in_reply p l register _ _ _ _ _ made code
       (composed_done p l code d possible.ranges empty (right_sizes (packet_bytes code d)) refl few small register _ _ _ _ _ (line_made p l register) v)
@@ -70,7 +70,7 @@ module _ (p : Panel) (possible : Possible p) (empty : held p.line.hold ≡ []) (
       (composed_replied p l code d possible.ranges empty (right_sizes (packet_bytes code d)) refl few small register _ _ _ _ _ (line_made p l register) possible.fits v ∙ ap (packet_bytes (64 + code)) e)
 
   -- a command that is refused
-  pub some_error : (reason : Reason) (place : ℕ) → verdict_of code d ≡ verdicts.Refused reason place → Writes (error_meant code) (packet_bytes (192 + code) [])
+  pub some_error : (reason : Reason) (place : ℕ) → verdict_of code d ≡ refused reason place → Writes (error_meant code) (packet_bytes (192 + code) [])
   some_error reason place v =
       in_refusal p l register _ _ _ _ _ made code reason place
       (composed_refused p l code d possible.ranges empty (right_sizes (packet_bytes code d)) refl few small register _ _ _ _ _ (line_made p l register) reason place v)

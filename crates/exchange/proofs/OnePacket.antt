@@ -1,7 +1,7 @@
 -- Bytes that are exactly one packet are the bytes of its type and data, and the other way round.
 use Prim.Native.Nat.{ℕ, suc, ◌+◌, ◌*◌, ◌/◌, ◌%◌, ◌≤◌}
-use mathlib.Core.Path.{◌≡◌, refl, sym, ◌∙◌, ap}
-use mathlib.Core.Bool.{true, false≢true, and-eq-true_iff}
+use mathlib.Core.Path.{◌≡◌, sym, ◌∙◌, ap}
+use mathlib.Core.Bool.{true, and-eq-true_iff}
 use mathlib.Core.List.{List, [], ◌∷◌, ◌++◌}
 use native.Mathlib.Numerals.{add-two, add-three}
 use native.Mathlib.Omega.{arith}
@@ -11,13 +11,13 @@ use lib.Seq.{drop-cons, length-take-le}
 use Rattle.lists.proofs.Laws.{when_true}
 use Rattle.shapes.specs.Shape.{Bytes}
 use Rattle.fcs.specs.Fcs.{checksum}
-use Rattle.packets.specs.declared.Judgement.{Judgement}
-use Rattle.packets.specs.declared.Judgement.TheVariants.{Wait, LongLength, WrongChecksum, Packet}
+use Rattle.packets.specs.declared.Judgement.TheVariants.{Packet}
 use Rattle.packets.specs.Packet.{content_most, packet_bytes}
 use Rattle.packets.specs.Judge.{length_byte, checksum_right, judge}
 use Rattle.packets.proofs.Bytes.{packet_length_lem, packet_content}
 use Rattle.packets.proofs.Judgements.{Seen, whole, see}
 use Rattle.packets.proofs.Composing.{composed_judged}
+use Rattle.reading.proofs.OnePacket.{found_packet}
 use Rattle.reading.specs.Reading.{is_packet_found, is_one_packet, data_in, reading_by, read_of}
 
 -- The bytes of a packet are exactly one, and are read by its type and data.
@@ -26,12 +26,6 @@ unfolding read_of is_one_packet
 packet_read kind content few =
     when_true _ _ _ (rw (composed_judged kind content few, eq-eqb _ (length content + 4) (packet_length_lem kind content)))
     ∙ ap (reading_by kind) (packet_content kind content)
-
-found_packet : (j : Judgement) → is_packet_found j ≡ true → j ≡ Packet
-found_packet Wait e = absurd (false≢true e)
-found_packet LongLength e = absurd (false≢true e)
-found_packet WrongChecksum e = absurd (false≢true e)
-found_packet Packet e = refl
 
 -- the two bytes behind the first n
 two_behind : (n : ℕ) (rest : List ℕ) → length rest ≡ n + 2 → rest ≡ take n rest ++ (get_or rest n 0 ∷ get_or rest (suc n) 0 ∷ [])

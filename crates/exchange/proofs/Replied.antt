@@ -6,6 +6,7 @@ use native.Mathlib.Omega.{arith}
 use borrow.Author.Tests.{eqb-true}
 use lib.ListN.{length, take, drop}
 use lib.Seq.{take_at, take-append_seam}
+use Rattle.std.specs.Prelude.{Ok}
 use Rattle.lists.specs.Runs.{front}
 use Rattle.lists.proofs.Laws.{when_true}
 use Rattle.packets.specs.declared.Packet.{Packet}
@@ -14,8 +15,7 @@ use Rattle.packets.proofs.Bytes.{packet_length_lem}
 use Rattle.packets.proofs.Composing.{fitting}
 use Rattle.filing.specs.declared.Record.{Record}
 use Rattle.verdict.specs.declared.Reason.{Reason}
-use Rattle.verdict.specs.declared.Verdict.TheVariants as verdicts
-use Rattle.verdict.specs.Verdict.{verdict_of}
+use Rattle.verdict.specs.Verdict.{refused, verdict_of}
 use Rattle.panel.specs.declared.Panel.{Panel}
 use Rattle.answers.specs.declared.Answer.{Answer}
 use Rattle.answers.specs.declared.Answer.TheVariants.{Done, Refused}
@@ -24,7 +24,7 @@ use Rattle.listen.specs.declared.Heard.{Heard}
 use Rattle.replies.specs.Replies.{reply_data}
 use Rattle.perform.specs.Commands.{carried}
 use Rattle.linecall.specs.Line.{Lent, line_heard, LineCall}
-use Rattle.theorems.proofs.Outcomes.{scan_of, Outcome, turned_away, waits, finds, strays, does, refuses, outcome}
+use Rattle.theorems.proofs.Outcomes.{scan_packet, Outcome, turned_away, waits, finds, strays, does, refuses, outcome}
 use Rattle.theorems.proofs.Calls.{done_says, refused_changes_only}
 use Rattle.exchange.specs.Writes.{data_heard}
 
@@ -50,36 +50,36 @@ module _ (p : Panel) (l : Lent) (register : List Record) (r : Said) (picture' li
 
   -- a command that a call answered, done or refused
   pub record Ruled (command : ℕ) : Type 0 where
-    pub packet : (line_heard p l).packet ≡ (scan_of p l).packet
-    pub kind : (scan_of p l).packet.kind ≡ command
+    pub packet : (line_heard p l).packet ≡ scan_packet p l
+    pub kind : (scan_packet p l).kind ≡ command
     pub small : command < 64
     pub room : length l.reply ≡ 26
 
-  pub done_ruled : (command : ℕ) → r.answer ≡ Done command → Ruled command × (verdict_of command (data_heard p l) ≡ verdicts.Allowed)
+  pub done_ruled : (command : ℕ) → r.answer ≡ Done command → Ruled command × (verdict_of command (data_heard p l) ≡ Ok tt)
   done_ruled command a = go (sym answer_is ∙ a) (outcome p l)
     where
-      go : {b : Answer} → b ≡ Done command → Outcome p l b → Ruled command × (verdict_of command (data_heard p l) ≡ verdicts.Allowed)
+      go : {b : Answer} → b ≡ Done command → Outcome p l b → Ruled command × (verdict_of command (data_heard p l) ≡ Ok tt)
       go e (turned_away f h g) = let z : ◌≡◌ {A = ℕ} 0 1 = cc in absurd (omega arith)
       go e (waits q h g f) = let z : ◌≡◌ {A = ℕ} 0 1 = cc in absurd (omega arith)
       go e (finds q h g f b (strays k)) = let z : ◌≡◌ {A = ℕ} 0 1 = cc in absurd (omega arith)
       go e (finds q h g f b (refuses k v)) = let z : ◌≡◌ {A = ℕ} 0 1 = cc in absurd (omega arith)
       go e (finds q h g f b (does k v)) =
-          let same : (scan_of p l).packet.kind ≡ command = cc in
-          let heard : (line_heard p l).packet ≡ (scan_of p l).packet = ap (λ (x : Heard). x.packet) h in
+          let same : (scan_packet p l).kind ≡ command = cc in
+          let heard : (line_heard p l).packet ≡ scan_packet p l = ap (λ (x : Heard). x.packet) h in
           (record { packet = heard; kind = same; small = omega arith; room = eqb-true _ _ q.1.1.1.1.1.0 }, rw (heard, ← same) v)
 
   pub refused_ruled : (command : ℕ) (reason : Reason) (place : ℕ) → r.answer ≡ Refused command reason place
-      → Ruled command × (verdict_of command (data_heard p l) ≡ verdicts.Refused reason place)
+      → Ruled command × (verdict_of command (data_heard p l) ≡ refused reason place)
   refused_ruled command reason place a = go (sym answer_is ∙ a) (outcome p l)
     where
-      go : {b : Answer} → b ≡ Refused command reason place → Outcome p l b → Ruled command × (verdict_of command (data_heard p l) ≡ verdicts.Refused reason place)
+      go : {b : Answer} → b ≡ Refused command reason place → Outcome p l b → Ruled command × (verdict_of command (data_heard p l) ≡ refused reason place)
       go e (turned_away f h g) = let z : ◌≡◌ {A = ℕ} 0 1 = cc in absurd (omega arith)
       go e (waits q h g f) = let z : ◌≡◌ {A = ℕ} 0 1 = cc in absurd (omega arith)
       go e (finds q h g f b (strays k)) = let z : ◌≡◌ {A = ℕ} 0 1 = cc in absurd (omega arith)
       go e (finds q h g f b (does k v)) = let z : ◌≡◌ {A = ℕ} 0 1 = cc in absurd (omega arith)
       go e (finds q h g f b (refuses {reason = x} {place = y} k v)) =
-          let same : (scan_of p l).packet.kind ≡ command = cc in
-          let heard : (line_heard p l).packet ≡ (scan_of p l).packet = ap (λ (x : Heard). x.packet) h in
+          let same : (scan_packet p l).kind ≡ command = cc in
+          let heard : (line_heard p l).packet ≡ scan_packet p l = ap (λ (x : Heard). x.packet) h in
           let ex : x ≡ reason = cc in
           let ey : y ≡ place = cc in
           (record { packet = heard; kind = same; small = omega arith; room = eqb-true _ _ q.1.1.1.1.1.0 }, rw (heard, ← same, ← ex, ← ey) v)
@@ -90,7 +90,7 @@ module _ (p : Panel) (l : Lent) (register : List Record) (r : Said) (picture' li
   unfolding carried
   done_writes command a n =
       let f = (done_ruled command a).0 in
-      let k = (scan_of p l).packet in
+      let k = scan_packet p l in
       let s = done_says p l register r picture' list' reply' register' called command a in
       let e : k.kind % 64 ≡ command = omega (arith, f.kind, f.small) in
       let d = reply_data command (data_heard p l) p.body in

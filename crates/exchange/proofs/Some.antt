@@ -1,18 +1,19 @@
 -- Some panel for each echo, version, flash and poll that a host reads.
-use Prim.Native.Nat.{ℕ, ◌+◌, ◌-◌, ◌≤◌}
+use Prim.Native.Nat.{ℕ, ◌+◌, ◌≤◌}
 use mathlib.Core.Path.{◌≡◌, refl, sym}
 use mathlib.Core.Bool.{true, false≢true, and-eq-true_iff}
 use mathlib.Core.List.{List, [], ◌∷◌}
 use native.Mathlib.Omega.{arith}
 use borrow.Author.Tests.{eqb-true, leb-true}
 use lib.ListN.{length, get_or, replicate}
+use Rattle.std.specs.Prelude.{bytes_eq, Result, Ok, Err, is_ok}
+use Rattle.std.proofs.lemmas.Slice.Eq.{bytes_eq-Decides}
 use Rattle.lists.specs.Tests.{when◌then◌else◌, ◌≤?◌, ◌=?◌, all}
 use Rattle.lists.specs.First.{first_below}
 use Rattle.packets.specs.Packet.{content_most, packet_bytes}
 use Rattle.table.specs.Table.{look_up, config_allowed}
 use Rattle.shapes.specs.Shape.{Bytes}
-use Rattle.verdict.specs.declared.Verdict.{Verdict}
-use Rattle.verdict.specs.declared.Verdict.TheVariants.{Allowed, Refused}
+use Rattle.verdict.specs.declared.Objection.{Objection}
 use Rattle.verdict.specs.Verdict.{first_out, whole_verdict, verdict_by}
 use Rattle.panel.specs.declared.Shown.{Shown}
 use Rattle.panel.specs.declared.Wires.{Wires}
@@ -24,7 +25,7 @@ use Rattle.ranges.proofs.InRange.{keys_whole}
 use Rattle.glyphs.proofs.Flat.{all_elements}
 use Rattle.replies.specs.Replies.{version, reply_data}
 use Rattle.reading.specs.declared.Meaning.TheVariants.{Reply}
-use Rattle.reading.specs.Reading.{same_run, is_allowed, is_poll, reading_with}
+use Rattle.reading.specs.Reading.{is_poll, reading_with}
 use Rattle.exchange.specs.Writes.{Writes}
 use Rattle.exchange.proofs.Refusable.{always_allowed}
 use Rattle.exchange.proofs.Made.{some_reply}
@@ -56,9 +57,9 @@ plain_proper =
     }
 
 -- a verdict that a test finds allowed
-pub allowed_is : (v : Verdict) → is_allowed v ≡ true → v ≡ Allowed
-allowed_is Allowed e = refl
-allowed_is (Refused reason place) e = absurd (false≢true e)
+pub allowed_is : (v : Result (Unit {0}) Objection) → is_ok v ≡ true → v ≡ Ok tt
+allowed_is (Ok _) e = refl
+allowed_is (Err o) e = absurd (false≢true e)
 
 -- 0: the same data
 pub echo_some : (d : List ℕ) → length d ≤ content_most → Bytes d → Replied 0 d
@@ -66,20 +67,9 @@ unfolding reply_data when◌then◌else◌
 echo_some d few bytes = some_reply (panel_with plain) (possible_with plain plain_proper) (holds_nothing plain) 0 (omega arith) d few bytes (always_allowed d few) d refl
 
 -- 1: the version
-same_is : (a b : List ℕ) → same_run a b ≡ true → a ≡ b
-unfolding same_run
-same_is [] [] e = refl
-same_is [] (y ∷ b) e = absurd (false≢true e)
-same_is (x ∷ a) [] e = absurd (false≢true e)
-same_is (x ∷ a) (y ∷ b) e =
-    let both = (and-eq-true_iff (x =? y) (same_run a b)).0 e in
-    let head = eqb-true x y both.0 in
-    let tail = same_is a b both.1 in
-    cc
-
-pub version_some : (d : List ℕ) → same_run d version ≡ true → Replied 1 d
+pub version_some : (d : List ℕ) → bytes_eq d version ≡ true → Replied 1 d
 unfolding all reply_data look_up verdict_by first_out first_below whole_verdict when◌then◌else◌
-version_some d same = some_reply (panel_with plain) (possible_with plain plain_proper) (holds_nothing plain) 1 (omega arith) [] (omega arith) (tested_bytes [] refl) refl d (sym (same_is d version same))
+version_some d same = some_reply (panel_with plain) (possible_with plain plain_proper) (holds_nothing plain) 1 (omega arith) [] (omega arith) (tested_bytes [] refl) refl d (sym ((bytes_eq-Decides d version).0 same))
 
 -- 3: the flash
 pub flash_some : (d : List ℕ) → Bytes d → length d ≡ flash_size → Replied 3 d

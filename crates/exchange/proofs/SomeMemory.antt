@@ -7,19 +7,19 @@ use native.Mathlib.Omega.{arith}
 use borrow.Author.Tests.{eqb-true, leb-true, lt-ltb, le-ltb}
 use lib.ListN.{length, get_or, take, drop, length-drop}
 use lib.Seq.{drop-cons}
+use Rattle.std.specs.Prelude.{Ok, is_ok}
 use Rattle.lists.specs.Tests.{when◌then◌else◌, ◌≤?◌, ◌=?◌, all_at_most}
 use Rattle.lists.proofs.Laws.{when_true, when_false}
-use Rattle.table.specs.Table.{table, look_up}
+use Rattle.table.specs.Table.{look_up}
 use Rattle.shapes.specs.Shape.{Bytes}
-use Rattle.verdict.specs.declared.Verdict.TheVariants.{Allowed}
 use Rattle.verdict.specs.Verdict.{in_range, verdict_of}
 use Rattle.panel.specs.declared.Shown.{Shown}
 use Rattle.panel.specs.State.{no_keys, low_pins}
 use Rattle.replies.specs.Replies.{memory, reply_data}
-use Rattle.reading.specs.Reading.{memory_reply_size, is_allowed, is_memory}
+use Rattle.reading.specs.Reading.{memory_reply_size, is_memory}
 use Rattle.exchange.proofs.Made.{some_reply}
 use Rattle.exchange.proofs.AreBytes.{bytes_each, each_bytes, drop-bytes}
-use Rattle.exchange.proofs.Data.{fitting}
+use Rattle.exchange.proofs.Data.{known}
 use Rattle.exchange.proofs.Laid.{laid_in, length-laid, laid_eight, laid_passes, laid_bytes}
 use Rattle.exchange.proofs.Panels.{panel_with, ProperShown, Proper, possible_with, holds_nothing}
 use Rattle.exchange.proofs.Some.{Replied, own, plain, plain_proper, allowed_is}
@@ -30,7 +30,7 @@ either_holds true b e f g = f refl
 either_holds false b e f g = g e
 
 -- an address that the command allows, and eight bytes
-module _ (d : List ℕ) (bytes : Bytes d) (nine : length d ≡ memory_reply_size) (v : verdict_of 10 (take 1 d) ≡ Allowed) where
+module _ (d : List ℕ) (bytes : Bytes d) (nine : length d ≡ memory_reply_size) (v : verdict_of 10 (take 1 d) ≡ Ok tt) where
   abbrev address : ℕ
   address = get_or d 0 0
 
@@ -46,12 +46,12 @@ module _ (d : List ℕ) (bytes : Bytes d) (nine : length d ≡ memory_reply_size
   asked : take 1 d ≡ address ∷ []
   asked = ap (take 1) (sym split)
 
-  allows : verdict_of 10 (address ∷ []) ≡ Allowed
+  allows : verdict_of 10 (address ∷ []) ≡ Ok tt
   allows = ap (verdict_of 10) (sym asked) ∙ v
 
   in_range_lem : ((64 ≤? address) && (address ≤? 120) || (128 ≤? address) && (address % 32 ≤? 12)) ≡ true
   unfolding look_up in_range when◌then◌else◌
-  in_range_lem = (fitting (look_up 10 table) (address ∷ []) allows).each 0 (omega arith)
+  in_range_lem = (known _ (address ∷ []) allows).each 0 (omega arith)
 
   -- what shows the eight bytes at the address replies them
   memory_some : (s : Shown) → ProperShown s → memory s address ≡ rows → Replied 10 d
@@ -86,7 +86,7 @@ module _ (d : List ℕ) (bytes : Bytes d) (nine : length d ≡ memory_reply_size
 pub memory_can_some : (d : List ℕ) → Bytes d → is_memory d ≡ true → Replied 10 d
 unfolding is_memory
 memory_can_some d bytes can =
-    let both = (and-eq-true_iff ((length d =? memory_reply_size) && is_allowed (verdict_of 10 (take 1 d))) _).0 can in
+    let both = (and-eq-true_iff ((length d =? memory_reply_size) && is_ok (verdict_of 10 (take 1 d))) _).0 can in
     let known = (and-eq-true_iff (length d =? memory_reply_size) _).0 both.0 in
     let nine = eqb-true _ _ known.0 in
     let v = allowed_is _ known.1 in

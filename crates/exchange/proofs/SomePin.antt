@@ -1,5 +1,5 @@
 -- Some panel for each reply of command 35 that a host reads: its pin has the edges, the level and the config.
-use Prim.Native.Nat.{ℕ, ◌+◌, ◌*◌, ◌-◌, ◌/◌, ◌%◌, ◌<◌, ◌≤◌}
+use Prim.Native.Nat.{ℕ, ◌+◌, ◌*◌, ◌/◌, ◌%◌, ◌<◌, ◌≤◌}
 use mathlib.Core.Path.{◌≡◌, refl, sym, ◌∙◌, ap}
 use mathlib.Core.Bool.{Bool, true, false, ◌&&◌, true≢false, and-eq-true_iff}
 use mathlib.Core.List.{List, [], ◌∷◌}
@@ -8,11 +8,11 @@ use borrow.Author.Tests.{eqb-true, eqb-false, leb-true, leb-false, le-leb}
 use lib.ListN.{length, get_or, take, set, length-set, get_or-eq_default}
 use lib.Seq.{get_or-set_same}
 use lib.Pow.{pow_pos}
+use Rattle.std.specs.Prelude.{Ok, is_ok}
 use Rattle.lists.specs.Tests.{when◌then◌else◌, ◌≤?◌, ◌=?◌}
 use Rattle.lists.proofs.Laws.{when_either}
-use Rattle.table.specs.Table.{table, look_up, config_allowed}
+use Rattle.table.specs.Table.{look_up, config_allowed}
 use Rattle.shapes.specs.Shape.{Bytes}
-use Rattle.verdict.specs.declared.Verdict.TheVariants.{Allowed}
 use Rattle.verdict.specs.Verdict.{in_range, verdict_of}
 use Rattle.panel.specs.declared.Wires.{Wires}
 use Rattle.panel.specs.declared.Pins.{Pins}
@@ -23,10 +23,10 @@ use Rattle.bits.proofs.Laws.{off_above, with_bit_on, with_bit_below}
 use Rattle.glyphs.proofs.Every.{all_set}
 use Rattle.glyphs.proofs.Flat.{all_elements}
 use Rattle.replies.specs.Replies.{bit, edges, reply_data}
-use Rattle.reading.specs.Reading.{pin_reply_size, is_allowed, is_wired, is_pin}
+use Rattle.reading.specs.Reading.{pin_reply_size, is_wired, is_pin}
 use Rattle.exchange.proofs.Made.{some_reply}
 use Rattle.exchange.proofs.AreBytes.{each_bytes}
-use Rattle.exchange.proofs.Data.{fitting}
+use Rattle.exchange.proofs.Data.{known}
 use Rattle.exchange.proofs.Panels.{panel_with, ProperWires, Proper, possible_with, holds_nothing}
 use Rattle.exchange.proofs.Some.{Replied, own, plain, plain_proper, allowed_is}
 
@@ -57,7 +57,7 @@ unfolding is_on
 bits_are e h = omega (arith, bit_is (e / 1), bit_is (e / 2), bit_is (e / 4))
 
 -- a pin that the command allows, its edges, a level and its config
-module _ (d : List ℕ) (bytes : Bytes d) (four : length d ≡ pin_reply_size) (v : verdict_of 35 (take 1 d) ≡ Allowed) (level : get_or d 2 0 ≤ 100) where
+module _ (d : List ℕ) (bytes : Bytes d) (four : length d ≡ pin_reply_size) (v : verdict_of 35 (take 1 d) ≡ Ok tt) (level : get_or d 2 0 ≤ 100) where
   abbrev pin : ℕ
   pin = get_or d 0 0
 
@@ -70,12 +70,12 @@ module _ (d : List ℕ) (bytes : Bytes d) (four : length d ≡ pin_reply_size) (
   all_four : pin ∷ edges_byte ∷ get_or d 2 0 ∷ config ∷ [] ≡ d
   all_four = all_elements 0 d 0 4 four
 
-  allows_pin : verdict_of 35 (pin ∷ []) ≡ Allowed
+  allows_pin : verdict_of 35 (pin ∷ []) ≡ Ok tt
   allows_pin = ap (λ (x : List ℕ). verdict_of 35 (take 1 x)) all_four ∙ v
 
   pin_few : pin ≤ 12
   unfolding look_up in_range when◌then◌else◌
-  pin_few = leb-true _ _ ((fitting (look_up 35 table) (pin ∷ []) allows_pin).each 0 (omega arith))
+  pin_few = leb-true _ _ ((known _ (pin ∷ []) allows_pin).each 0 (omega arith))
 
   abbrev wires_for : Wires
   wires_for = record { levels = set plain.wires.levels pin (get_or d 2 0); configs = set plain.wires.configs pin config }
@@ -123,8 +123,8 @@ module _ (d : List ℕ) (bytes : Bytes d) (four : length d ≡ pin_reply_size) (
 pub pin_can_some : (d : List ℕ) → Bytes d → is_pin d ≡ true → Replied 35 d
 unfolding is_pin is_wired
 pin_can_some d bytes can =
-    let wired = (and-eq-true_iff ((length d =? pin_reply_size) && is_allowed (verdict_of 35 (take 1 d)) && (get_or d 2 0 ≤? 100)) _).0 can in
-    let high = (and-eq-true_iff ((length d =? pin_reply_size) && is_allowed (verdict_of 35 (take 1 d))) _).0 wired.0 in
+    let wired = (and-eq-true_iff ((length d =? pin_reply_size) && is_ok (verdict_of 35 (take 1 d)) && (get_or d 2 0 ≤? 100)) _).0 can in
+    let high = (and-eq-true_iff ((length d =? pin_reply_size) && is_ok (verdict_of 35 (take 1 d))) _).0 wired.0 in
     let known = (and-eq-true_iff (length d =? pin_reply_size) _).0 high.0 in
     let four = eqb-true _ _ known.0 in
     let v = allowed_is _ known.1 in

@@ -7,6 +7,7 @@ use mathlib.Core.Bool.{true}
 use mathlib.Core.List.{List, []}
 use native.Mathlib.Omega.{arith}
 use lib.ListN.{length, take}
+use Rattle.std.specs.Prelude.{Some, Result, Ok, Err}
 use Rattle.shapes.specs.Shape.{Bytes}
 use Rattle.packets.specs.Packet.{packet_bytes}
 use Rattle.packets.specs.Hold.{held}
@@ -18,12 +19,12 @@ use Rattle.ranges.specs.Ranges.{in_ranges}
 use Rattle.answers.specs.declared.Answer.TheVariants as answers
 use Rattle.answers.specs.declared.Said.{Said}
 use Rattle.linecall.specs.Line.{Lent, LineCall}
-use Rattle.composer.specs.declared.Composing.{Composing}
-use Rattle.composer.specs.declared.Composing.TheVariants.{Refused, Written}
+use Rattle.composer.specs.declared.Written.{Written}
+use Rattle.composer.specs.declared.ComposeError.{ComposeError}
+use Rattle.composer.specs.declared.ComposeError.TheVariants.{Refused}
 use Rattle.composer.specs.Compose.{ComposesFor}
 use Rattle.composer.proofs.Verdicts.{allowed_short, allowed_code}
 use Rattle.composer.proofs.Ways.{written_allowed, written_is}
-use Rattle.reading.specs.declared.Meaning.TheVariants.{Unreadable}
 use Rattle.reading.specs.declared.Reading.{Reading}
 use Rattle.reading.specs.Reading.{read_of}
 use Rattle.exchange.specs.Writes.{Writes}
@@ -34,12 +35,12 @@ use Rattle.exchange.proofs.Read as read
 use Rattle.exchange.proofs.Found as found
 
 -- What compose writes is heard.
-pub composed_is_heard : (packet : List ℕ) (code : ℕ) (d : List ℕ) (command size : ℕ) (packet' : List ℕ) → ComposesFor packet code d (Written command size) packet'
-    → IsHeard code d (take size packet')
-composed_is_heard packet code d command size packet' w =
-    let v = written_allowed packet code d command size packet' w in
+pub composed_is_heard : (packet : List ℕ) (code : ℕ) (d : List ℕ) (w : Written) (packet' : List ℕ) → ComposesFor packet code d (Ok w) packet'
+    → IsHeard code d (take w.size packet')
+composed_is_heard packet code d w packet' c =
+    let v = written_allowed packet code d w packet' c in
     let few = allowed_short code d v in
-    let bytes : take size packet' ≡ packet_bytes code d = (written_is packet code d command size packet' w).2 in
+    let bytes : take w.size packet' ≡ packet_bytes code d = (written_is packet code d w packet' c).2 in
     record {
       found = λ s q. scan_alone code d few s (rw bytes at q);
       allowed = v;
@@ -48,18 +49,18 @@ composed_is_heard packet code d command size packet' w =
 
 -- For every code of 0 to 63 and data of at most 22 bytes, compose refuses if and only if the panel does, with the same reason and
 -- place.
-pub refuses_as_the_panel : (packet : List ℕ) (code : ℕ) (d : List ℕ) (c : Composing) (packet' : List ℕ) → length packet ≡ 26 → code < 64 → length d ≤ 22 → ComposesFor packet code d c packet'
+pub refuses_as_the_panel : (packet : List ℕ) (code : ℕ) (d : List ℕ) (c : Result Written ComposeError) (packet' : List ℕ) → length packet ≡ 26 → code < 64 → length d ≤ 22 → ComposesFor packet code d c packet'
     → (p : Panel) (l : Lent) → in_ranges p ≡ true → held p.line.hold ≡ [] → RightSizes l → l.piece ≡ packet_bytes code d
     → (register : List Record) (r : Said) (picture' list' reply' : List ℕ) (register' : List Record) → LineCall p l register r picture' list' reply' register'
-    → (reason : Reason) (place : ℕ) → (c ≡ Refused code reason place) ↔ (r.answer ≡ answers.Refused code reason place)
+    → (reason : Reason) (place : ℕ) → (c ≡ Err (Refused code reason place)) ↔ (r.answer ≡ answers.Refused code reason place)
 refuses_as_the_panel packet code d c packet' size small few w p l ranges empty sizes piece register r picture' list' reply' register' called =
     refusals.alike code d c r.answer (verdict_of code d) small (refusals.composed_outcome packet code d c packet' size w) (composed_answer p l code d ranges empty sizes piece few small register r picture' list' reply' register' called refl)
 
 -- Every reply and error reply of a line call on any panel in its ranges, and every report of a key call, is read to what the panel
 -- meant.
-pub written_is_read : (m : Reading) (bytes : List ℕ) → Writes m bytes → read_of bytes ≡ m
+pub written_is_read : (m : Reading) (bytes : List ℕ) → Writes m bytes → read_of bytes ≡ Some m
 written_is_read m bytes w = read.writes_read m bytes w
 
 -- Whatever bytes are read, some panel in its ranges writes, for some command or key event, and means what is read.
-pub read_is_written : (bytes : List ℕ) → Bytes bytes → ((read_of bytes).meaning ≡ Unreadable → ⊥) → Writes (read_of bytes) bytes
-read_is_written bytes small readable = found.read_writes bytes small readable
+pub read_is_written : (bytes : List ℕ) → Bytes bytes → (m : Reading) → read_of bytes ≡ Some m → Writes m bytes
+read_is_written bytes small m e = found.read_writes bytes small m e

@@ -1,5 +1,5 @@
 -- What a panel makes of a packet that a host composed: "Composing then framing gives the same command".
-use Rattle.std.specs.Prelude.{ℕ, ◌+◌, ◌≡◌, true, List, [], length}
+use Rattle.std.specs.Prelude.{ℕ, ◌+◌, ◌≡◌, true, List, [], length, Ok}
 use Rattle.packets.specs.Packet.{reply_size}
 use Rattle.packets.specs.Hold.{held, hold_of}
 use Rattle.framing.specs.declared.Scanned.{Scanned}
@@ -7,7 +7,6 @@ use Rattle.framing.specs.Scan.{Outcome, packet, scanned_of, Scans}
 use Rattle.filing.specs.declared.Record.{Record}
 use Rattle.filing.specs.Filing.{register_records}
 use Rattle.picture.specs.Draw.{cell_count, picture_size, font_size}
-use Rattle.verdict.specs.declared.Verdict.TheVariants.{Allowed}
 use Rattle.verdict.specs.Verdict.{verdict_of}
 use Rattle.panel.specs.declared.Panel.{Panel}
 use Rattle.ranges.specs.Ranges.{in_ranges}
@@ -32,7 +31,7 @@ pub record RightSizes (l : Lent) : Type 0 where
 -- nothing, answers done.
 pub record IsHeard (code : ℕ) (d bytes : List ℕ) : Type 0 where
   pub found : (s : Scanned) → Scans (hold_of []) bytes s → s ≡ scanned_of (alone code d)
-  pub allowed : verdict_of code d ≡ Allowed
+  pub allowed : verdict_of code d ≡ Ok tt
   pub done : (p : Panel) (l : Lent) → in_ranges p ≡ true → held p.line.hold ≡ [] → RightSizes l → l.piece ≡ bytes
       → (register : List Record) (r : Said) (picture' list' reply' : List ℕ) (register' : List Record) → LineCall p l register r picture' list' reply' register'
       → r.answer ≡ Done code

@@ -4,12 +4,12 @@ use mathlib.Core.Path.{◌≡◌, refl, sym, ◌∙◌, ap}
 use mathlib.Core.Bool.{Bool, true, false}
 use native.Mathlib.Nat.{mul-one, mul_assoc, mul_comm, pow-suc, div-add-mod', div-eq_of_lt}
 use native.Mathlib.Omega.{arith}
-use lib.Bits.{bit_xor, xor_lt, xor_shr, xor_zero_r, xor_shifted}
+use lib.Bits.{bit_xor, xor_lt, xor_mod, xor_shr, xor_zero_r, xor_shifted}
 use lib.Dec.{lit<}
+use Rattle.std.specs.Int.Bits.{xor_assoc}
 use Rattle.lists.specs.Tests.{when◌then◌else◌, ◌=?◌}
 use Rattle.lists.proofs.Laws.{when_either}
 use Rattle.fcs.specs.Fcs.{polynomial, after_bit, after_bits, after_byte}
-use Rattle.fcs.proofs.Xor.{last_digit, xor_assoc}
 
 xor_when : (odd : Bool) (h c : ℕ) → when odd then bit_xor (bit_xor h c) polynomial else bit_xor h c ≡ bit_xor h (when odd then bit_xor c polynomial else c)
 unfolding when◌then◌else◌
@@ -22,7 +22,7 @@ unfolding after_bit
 above_bit h c =
     let even : h * 2 % 2 ≡ 0 = omega arith in
     let half : h * 2 / 2 ≡ h = omega arith in
-    rw (last_digit (h * 2) c, even, xor_shr (h * 2) c 1, half) (xor_when (c % 2 =? 1) h (c / 2))
+    rw (xor_mod (h * 2) c 1, even, xor_shr (h * 2) c 1, half) (xor_when (c % 2 =? 1) h (c / 2))
 
 -- n steps: h stands above the lowest n bits
 above_bits : (n h c : ℕ) → after_bits n (bit_xor (h * 2 ^ n) c) ≡ bit_xor h (after_bits n c)

@@ -10,6 +10,7 @@ mod words;
 pub const ONES: u16 = 65535;
 
 // A step by the table: the high byte moves down, and is xored with the word whose number is the low byte xored with the new one.
+// Kept: the step by / and %, as `after_byte` says it.
 fn byte(c: u16, b: u8) -> u16
     ensures { result ≡ after_byte c b }
 {
@@ -19,17 +20,11 @@ fn byte(c: u16, b: u8) -> u16
 fn run(bytes: &[u8]) -> u16
     ensures { result ≡ after_bytes all_ones bytes.now }
 {
-    let mut c = ONES;
-    let mut i = 0;
-    while i < bytes.len() {
-        c = byte(c, bytes[i]);
-        i += 1;
-    }
-    c
+    bytes.iter().fold(ONES, |c, b| byte(c, *b))
 }
 
 pub fn checksum(bytes: &[u8]) -> u16
     ensures { Checksums bytes.now result }
 {
-    ONES - run(bytes)
+    !run(bytes)
 }

@@ -1,5 +1,6 @@
 // The data sheet's printed table (document 001, its first print): 256 words with the digits and in the lines of eight that they have there,
-// each behind its number. A match becomes one table in memory that is only read; an array would be stored anew in each call.
+// each behind its number.
+// Kept: a match becomes one table in memory that is only read; an array is stored anew in each call.
 ghost use Rattle.std.specs.Prelude.{◌≡◌};
 ghost use Rattle.fcs.specs.Fcs.{after_bits};
 

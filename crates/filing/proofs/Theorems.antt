@@ -3,13 +3,13 @@ use mathlib.Core.Path.{◌≡◌, refl, ◌∙◌, ap}
 use mathlib.Core.Logic.{dite}
 use mathlib.Core.Bool.{Bool, true, false}
 use mathlib.Core.List.{List}
+use Rattle.std.specs.Prelude.{Option, None, Some}
 use Prim.Native.Nat.{ℕ, ◌+◌, ◌<◌}
 use native.Mathlib.Decide.{dec_lt}
 use native.Mathlib.Omega.{arith}
 use borrow.Author.Tests.{ltb-true, ltb-false}
 use lib.ListN.{length, get_or, get_or-replicate, length-set}
 use Rattle.lists.specs.Promise.{Determined}
-use Rattle.lists.specs.Tests.{when◌then◌else◌}
 use Rattle.lists.specs.First.{first_below}
 use Rattle.lists.proofs.Laws.{when_either}
 use Rattle.lists.proofs.Firsts.{first_at_most, found_holds, none_before}
@@ -61,9 +61,9 @@ empty_is_free register e i h =
     ap is_free (ap (λ (r : List Record). get_or r i blank) e ∙ get_or-replicate 64 i blank blank l)
 
 -- A call without a refusal changes neither the register nor the unfiled number.
-pub not_refused_changes_nothing : (k : Refusal) (f : Files) → filed_if false k f ≡ f
-unfolding filed_if when◌then◌else◌
-not_refused_changes_nothing k f = refl
+pub not_refused_changes_nothing : (f : Files) → filed_if None f ≡ f
+unfolding filed_if
+not_refused_changes_nothing f = refl
 
 -- a filing changes no length
 length_at : (k : Refusal) (i : ℕ) (f : Files) → length (filed_at k i f).register ≡ length f.register
@@ -71,10 +71,10 @@ unfolding filed_at
 length_at k i f = when_either (λ (g : Files). length g.register ≡ length f.register) _ _ _ (λ _. simp length-set) (λ _. refl)
 
 -- The register keeps its length.
-pub length-filed : (refused : Bool) (k : Refusal) (f : Files) → length (filed_if refused k f).register ≡ length f.register
+pub length-filed : (refusal : Option Refusal) (f : Files) → length (filed_if refusal f).register ≡ length f.register
 unfolding filed_if filed
-length-filed refused k f =
-    when_either (λ (g : Files). length g.register ≡ length f.register) _ _ _ (λ _. length_at k (slot k f.register) f) (λ _. refl)
+length-filed None f = refl
+length-filed (Some k) f = length_at k (slot k f.register) f
 
 -- For each public function, any two results that its promise allows are equal.
 pub filed_in_determined : (k : Refusal) (r : Record) (unfiled : ℕ) → Determined (FilesOne k r unfiled)

@@ -1,5 +1,5 @@
 -- Filing a refusal in the fault register.
-use Rattle.std.specs.Prelude.{ℕ, ◌+◌, min, ◌≡◌, Bool, not, ◌&&◌, List, [], ◌∷◌, length, get_or, set, replicate}
+use Rattle.std.specs.Prelude.{ℕ, ◌+◌, min, ◌≡◌, Bool, not, ◌&&◌, Option, None, Some, List, [], ◌∷◌, length, get_or, set, replicate}
 use Rattle.lists.specs.Tests.{when◌then◌else◌, ◌<?◌, ◌=?◌}
 use Rattle.lists.specs.First.{first_below}
 use Rattle.filing.specs.declared.Record.{Record}
@@ -64,8 +64,9 @@ unfoldable pub filed : Refusal → Files → Files
 filed k f = filed_at k (slot k f.register) f
 
 -- what a call does to the register: a refusal filed where there is one
-unfoldable pub filed_if : Bool → Refusal → Files → Files
-filed_if refused k f = when refused then filed k f else f
+unfoldable pub filed_if : Option Refusal → Files → Files
+filed_if None f = f
+filed_if (Some k) f = filed k f
 
 -- refusals filed one after the other
 unfoldable pub filed_all : List Refusal → Files → Files

@@ -6,11 +6,9 @@ ghost use Rattle.filing.specs.Filing.{FilesOne, Unfiles, Empties};
 // How many records a register has.
 pub const RECORDS: usize = 64;
 
-// Where the count of a record stops, and the unfiled number.
-pub const MOST: u32 = 4294967295;
-
 // A record of the register. A count of 0 makes it free, whatever its key.
-#[derive(Clone, Copy)]
+// Kept: its reason is a number, since the register's bytes may be any (`ReadsRegister`).
+#[derive(Clone, Copy, Default)]
 pub struct Record {
     pub command: u8,
     pub reason: u8,
@@ -19,7 +17,8 @@ pub struct Record {
 }
 
 // The key of a refusal.
-#[derive(Clone, Copy)]
+// Kept: numbers, as a record has them.
+#[derive(Clone, Copy, PartialEq, Eq)]
 pub struct Refusal {
     pub command: u8,
     pub reason: u8,
@@ -37,41 +36,31 @@ pub struct Filed {
 pub fn empty() -> [Record; RECORDS]
     ensures { Empties result }
 {
-    [Record {
-        command: 0,
-        reason: 0,
-        place: 0,
-        count: 0,
-    }; RECORDS]
+    [Record::default(); RECORDS]
 }
 
 // One more refusal that no record holds.
 pub fn unfiled_more(unfiled: u32) -> u32
     ensures { Unfiles unfiled result }
 {
-    if unfiled < MOST {
-        return unfiled + 1;
-    }
-    MOST
+    unfiled.saturating_add(1)
 }
 
 // One more in a record that is free or has the key; in the unfiled number where the record's count is full.
 pub fn filed_in(k: Refusal, r: Record, unfiled: u32) -> Filed
     ensures { FilesOne k r unfiled result }
 {
-    if r.count < MOST {
-        let count = r.count + 1;
-        let fault = Record {
-            command: k.command,
-            reason: k.reason,
-            place: k.place,
-            count,
+    let Some(count) = r.count.checked_add(1) else {
+        return Filed {
+            fault: r,
+            unfiled: unfiled_more(unfiled),
         };
-        return Filed { fault, unfiled };
-    }
-    let more = unfiled_more(unfiled);
-    Filed {
-        fault: r,
-        unfiled: more,
-    }
+    };
+    let fault = Record {
+        command: k.command,
+        reason: k.reason,
+        place: k.place,
+        count,
+    };
+    Filed { fault, unfiled }
 }

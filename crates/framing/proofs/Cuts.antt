@@ -1,18 +1,18 @@
 -- Every way to cut a line into calls comes to the whole line, and there is one.
 use mathlib.Core.Path.{◌≡◌, refl, sym, ◌∙◌, ap}
 use mathlib.Core.Logic.{dite}
-use mathlib.Core.Bool.{false}
 use mathlib.Core.List.{List, [], ◌++◌, append-nil, append_assoc}
 use Prim.Native.Nat.{ℕ, zero, suc, ◌+◌, ◌*◌, ◌-◌, ◌<◌, ◌≤◌, min}
 use native.Mathlib.Decide.{dec_le}
 use native.Mathlib.Omega.{arith}
 use lib.ListN.{length, take, drop, take-append-drop, length-take, length-drop}
 use lib.Seq.{drop-length, take_all}
+use Rattle.std.specs.Prelude.{None}
 use Rattle.packets.specs.declared.Hold.{Hold}
 use Rattle.packets.specs.Hold.{held, hold_of}
 use Rattle.packets.proofs.Bytes.{held_hold_of}
 use Rattle.framing.specs.declared.Scanned.{Scanned}
-use Rattle.framing.specs.Scan.{Ending, waiting, packet, is_packet, Outcome, scan, scanned_of, piece_most, Scans}
+use Rattle.framing.specs.Scan.{Ending, waiting, packet, packet_at, Outcome, scan, scanned_of, piece_most, Scans}
 use Rattle.framing.specs.Line.{Tally, nothing_more, counted, Calls, last, next, line}
 use Rattle.framing.proofs.Lines.{noted, counted_noted, scanned, all_taken}
 use Rattle.framing.proofs.Bounds.{call, taken_at_most}
@@ -33,17 +33,17 @@ by_call hold piece more r e =
     b ∙ sym (counted_noted o (line (o.hold ++ rest))) ∙ ap (λ (h : List ℕ). counted (scanned_of o) (line (h ++ rest))) (sym (held_hold_of o.hold))
     ∙ sym (ap (λ (x : Scanned). counted x (line (held x.hold ++ drop x.counts.taken (piece ++ more)))) e)
 
-waiting_ending : (e : Ending) → is_packet e ≡ false → e ≡ waiting
+waiting_ending : (e : Ending) → packet_at e ≡ None → e ≡ waiting
 waiting_ending waiting p = refl
-waiting_ending (packet k d) p = let z : ◌≡◌ {A = ℕ} 0 1 = cc in absurd (omega arith)
+waiting_ending (packet k d) p = cc
 
 -- a last call leaves nothing to read
-nothing_left : (hold : Hold) (bytes : List ℕ) (r : Scanned) → Scans hold bytes r → r.counts.taken ≡ length bytes → r.found ≡ false
+nothing_left : (hold : Hold) (bytes : List ℕ) (r : Scanned) → Scans hold bytes r → r.counts.taken ≡ length bytes → r.packet ≡ None
     → line (held r.hold ++ drop r.counts.taken (bytes ++ [])) ≡ nothing_more r.hold
 unfolding scanned_of
 nothing_left hold bytes r e t f =
     let o = scan (held hold) (take piece_most bytes) in
-    let w : o.ending ≡ waiting = waiting_ending o.ending (sym (ap (λ (x : Scanned). x.found) e) ∙ f) in
+    let w : o.ending ≡ waiting = waiting_ending o.ending (sym (ap (λ (x : Scanned). x.packet) e) ∙ f) in
     let a = all_taken (held hold) (take piece_most bytes) w in
     rw (t, append-nil, drop-length, append-nil, e, held_hold_of) a.1
 
@@ -103,7 +103,7 @@ module _ (most : ℕ) (room : 1 ≤ most) (hold : Hold) (bytes : List ℕ) where
       let same : piece ≡ bytes = take_all most bytes (at_most_first _ _ _ p) in
       let all : outcome.taken ≡ length bytes = t ∙ ap (λ (x : List ℕ). length (take piece_most x)) same ∙ ap length (take_all piece_most bytes (at_most_second _ _ _ p)) in
       let c : Calls most hold bytes (counted (scanned_of outcome) (nothing_more (hold_of outcome.hold))) =
-      last (at_most_first _ _ _ p) (ap (λ (x : List ℕ). scanned_of (scan (held hold) (take piece_most x))) same) all (ap is_packet q) in
+      last (at_most_first _ _ _ p) (ap (λ (x : List ℕ). scanned_of (scan (held hold) (take piece_most x))) same) all (ap packet_at q) in
       rw (whole_line c) at c)
       (λ p. go_on (ih (hold_of outcome.hold) (drop outcome.taken bytes) (left f (less_waiting _ _ _ _ _ _ _ room n k (t ∙ sized) p))))
   ends_at f n ih (packet k d) q =

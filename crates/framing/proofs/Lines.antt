@@ -7,7 +7,6 @@ use native.Mathlib.Numerals.{one-add, add-three, add-four}
 use native.Mathlib.Omega.{arith}
 use lib.ListN.{length, get_or, take, drop}
 use lib.Seq.{append_snoc}
-use Rattle.lists.specs.Tests.{when◌then◌else◌}
 use Rattle.packets.specs.declared.Judgement.{Judgement}
 use Rattle.packets.specs.declared.Judgement.TheVariants.{Wait, LongLength, WrongChecksum, Packet}
 use Rattle.packets.specs.declared.Packet as packets
@@ -27,7 +26,7 @@ abbrev pub noted : Outcome → Tally → Tally
 noted o t = onto (packets_of o.ending) o.dropped o.checked t
 
 pub counted_noted : (o : Outcome) (t : Tally) → counted (scanned_of o) t ≡ noted o t
-unfolding scanned_of packets_in when◌then◌else◌
+unfolding scanned_of
 counted_noted o t = ap (λ (l : List packets.Packet). onto l o.dropped o.checked t) (go o.ending)
   where
     go : (e : Ending) → packets_in (scanned_of (record { ending = e; hold = o.hold; taken = o.taken; dropped = o.dropped; checked = o.checked })) ≡ packets_of e

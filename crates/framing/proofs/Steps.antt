@@ -20,7 +20,7 @@ settle_at_lem [] j n e = absurd (omega arith)
 settle_at_lem (b ∷ h) j n e = rw e
 
 module _ (h : List ℕ) where
-  settle_wait : judge h ≡ Wait → settle h ≡ still h
+  pub settle_wait : judge h ≡ Wait → settle h ≡ still h
   unfolding settle settle_at
   settle_wait = at h
     where
@@ -42,7 +42,7 @@ module _ (h : List ℕ) where
       go : Seen h WrongChecksum → settle h ≡ after 0 1 (length_byte h + 2) (settle (drop 1 h))
       go (wrong a b f) = settle_at_lem h WrongChecksum (omega arith) e
 
-  settle_found : judge h ≡ Packet → settle h ≡ found h
+  pub settle_found : judge h ≡ Packet → settle h ≡ found h
   unfolding settle_at
   settle_found e = go (see h Packet e)
     where
@@ -73,10 +73,6 @@ module _ (h s : List ℕ) where
       at : (r : List ℕ) → scan h r ≡ found h
       at [] = settle_found h e
       at (b ∷ r) = rw (settle_found h e)
-
-pub ends_waiting : (h : List ℕ) → judge h ≡ Wait → scan h [] ≡ still h
-unfolding scan
-ends_waiting h e = settle_wait h e
 
 pub after_after : (t d k t' d' k' : ℕ) (o : Outcome) → after t d k (after t' d' k' o) ≡ after (t + t') (d + d') (k + k') o
 after_after t d k t' d' k' o = simp add_assoc

@@ -1,19 +1,19 @@
 -- What holds of packets on the line over and above the functions' own promises.
 use mathlib.Core.Path.{◌≡◌, sym, ◌∙◌}
-use mathlib.Core.Bool.{true}
 use mathlib.Core.List.{List, [], ◌∷◌, ◌++◌}
 use Prim.Native.Nat.{ℕ, ◌+◌, ◌-◌, ◌*◌, ◌≤◌}
 use native.Mathlib.Omega.{arith}
 use lib.ListN.{length, take, length-take}
-use Rattle.lists.specs.Tests.{when◌then◌else◌}
+use Rattle.std.specs.Prelude.{Some}
 use Rattle.lists.specs.Promise.{Determined}
 use Rattle.lists.proofs.Theorems.{one}
 use Rattle.packets.specs.declared.Hold.{Hold}
+use Rattle.packets.specs.declared.Packet.{Packet}
 use Rattle.packets.specs.Packet.{packet_bytes, packet_of}
 use Rattle.packets.specs.Hold.{held}
 use Rattle.framing.specs.declared.Scanned.{Scanned}
 use Rattle.framing.specs.Scan.{scanned_of, piece_most, Scans}
-use Rattle.framing.specs.Line.{Tally, Calls, onto, line}
+use Rattle.framing.specs.Line.{Tally, packet_bytes_in, Calls, onto, line}
 use Rattle.framing.proofs.Bounds as bounds
 use Rattle.framing.proofs.Composed as composed
 use Rattle.framing.proofs.Cuts as cuts
@@ -36,12 +36,12 @@ module _ (hold : Hold) (piece : List ℕ) (r : Scanned) (scanned : Scans hold pi
 
   -- Each byte that was held before the call or is taken by it is dropped, is one of the n + 4 of the packet found, or is held
   -- after it: the counts add up.
-  pub bytes_add_up : length (held hold) + r.counts.taken ≡ r.counts.dropped + (when r.found then r.packet.length + 4 else 0) + length (held r.hold)
+  pub bytes_add_up : length (held hold) + r.counts.taken ≡ r.counts.dropped + packet_bytes_in r.packet + length (held r.hold)
   bytes_add_up = shares.add_up hold piece r scanned
 
   -- A call that finds a packet leaves at least four bytes less than there were before it, those held and those of the piece
   -- that are not yet taken together.
-  pub found_takes_four : r.found ≡ true → length (held r.hold) + (length piece - r.counts.taken) + 4 ≤ length (held hold) + length piece
+  pub found_takes_four : {p : Packet} → r.packet ≡ Some p → length (held r.hold) + (length piece - r.counts.taken) + 4 ≤ length (held hold) + length piece
   found_takes_four = shares.found_takes_four hold piece r scanned
 
 -- Calls over any bytes find at most one packet for each four of them, the bytes held before among them.

@@ -1,6 +1,6 @@
 -- What holds at each turn of a walk over bytes, and where it ends.
-use mathlib.Core.Path.{◌≡◌, sym, ◌∙◌, ap}
-use mathlib.Core.Bool.{true, false}
+use mathlib.Core.Path.{◌≡◌, refl, sym, ◌∙◌, ap}
+use mathlib.Core.Bool.{Bool, true, false}
 use mathlib.Core.List.{List, [], ◌++◌, append-nil}
 use Prim.Native.Nat.{ℕ, ◌+◌, ◌-◌, ◌<◌, ◌≤◌, min}
 use native.Mathlib.Nat.{zero-add, add-zero}
@@ -13,10 +13,10 @@ use Rattle.packets.specs.Judge.{length_byte, judge}
 use Rattle.packets.proofs.Judgements as seen
 use Rattle.packets.proofs.Judgements.{Seen, see}
 use Rattle.framing.specs.declared.Walked.{Walked}
-use Rattle.framing.specs.Scan.{still, after, found}
+use Rattle.framing.specs.Scan.{after, settle, scan}
 use Rattle.framing.specs.Walk.{between, from, needed, Reaches, Walks}
 use Rattle.framing.proofs.Waits.{waits_for, more_wait}
-use Rattle.framing.proofs.Steps.{takes, ends_waiting, finds, drops_long, drops_wrong, after_after}
+use Rattle.framing.proofs.Steps.{takes, settle_found, finds, drops_long, drops_wrong, after_after}
 
 pub first_turn : (bytes : List ℕ) (s e : ℕ) → s ≤ e → e ≤ s + 26 → e ≤ length bytes → Reaches bytes s e s e 0
 first_turn bytes s e a b c =
@@ -57,13 +57,6 @@ module _ (bytes : List ℕ) (s₀ e₀ s e k : ℕ) (v : Reaches bytes s₀ e₀
     where
       go : Seen (between s e bytes) WrongChecksum → (s + 4 ≤ e) × (length_byte (between s e bytes) ≤ 22) × (length_byte (between s e bytes) ≡ get_or bytes (s + 1) 0)
       go (seen.wrong a b f) = (omega (arith, count), a, get_or-take (e - s) (drop s bytes) 1 0 (omega (arith, count)) ∙ get_or-drop s bytes 1 0)
-
-  pub packets : judge (between s e bytes) ≡ Packet
-      → (length_byte (between s e bytes) ≤ 22) × (length_byte (between s e bytes) + 4 ≤ length (between s e bytes)) × (length (between s e bytes) ≤ 26)
-  packets j = go (see (between s e bytes) Packet j)
-    where
-      go : Seen (between s e bytes) Packet → (length_byte (between s e bytes) ≤ 22) × (length_byte (between s e bytes) + 4 ≤ length (between s e bytes)) × (length (between s e bytes) ≤ 26)
-      go (seen.whole a b f) = (a, b, omega (arith, count, v.room))
 
   -- all bytes but the oldest
   rest : (l : List ℕ) → s + 1 ≤ e → drop 1 (between s e l) ≡ between (s + 1) e l
@@ -147,11 +140,12 @@ module _ (bytes : List ℕ) (s₀ e₀ s e k : ℕ) (v : Reaches bytes s₀ e₀
         rw a at (took_some (e' - e) j (omega arith) (omega arith))
 
   -- where a walk ends
-  pub brought : judge (between s e bytes) ≡ Packet → (more : List ℕ) → from s e (bytes ++ more) ≡ found (between s e bytes)
-  brought j more = rw (held_more more) (finds (between s e bytes) (drop e (bytes ++ more)) j)
+  pub brought : judge (between s e bytes) ≡ Packet → (more : List ℕ) → from s e (bytes ++ more) ≡ settle (between s e bytes)
+  brought j more = rw (held_more more) (finds (between s e bytes) (drop e (bytes ++ more)) j ∙ sym (settle_found (between s e bytes) j))
 
-  pub used_up : judge (between s e bytes) ≡ Wait → e ≡ length bytes → from s e bytes ≡ still (between s e bytes)
-  used_up j f = rw (drop_of_length-le bytes {i = e} (omega arith)) (ends_waiting (between s e bytes) j)
+  pub used_up : e ≡ length bytes → from s e bytes ≡ settle (between s e bytes)
+  unfolding scan
+  used_up f = rw (drop_of_length-le bytes {i = e} (omega arith)) refl
 
 -- how a walk ended
 module _ (bytes : List ℕ) (s₀ e₀ : ℕ) (r : Walked) (w : Walks bytes s₀ e₀ r) where
@@ -161,17 +155,17 @@ module _ (bytes : List ℕ) (s₀ e₀ : ℕ) (r : Walked) (w : Walks bytes s₀
   pub is_wait : r.found ≡ false → judge (between r.start r.end bytes) ≡ Wait
   is_wait f = w.judged ∙ when_false _ _ _ f
 
+  -- what is held is judged, and nothing is to come or it makes no difference
+  settles : (f : Bool) → r.found ≡ f → from r.start r.end bytes ≡ settle (between r.start r.end bytes)
+  settles true f = let j = is_packet_lem f in finds (between r.start r.end bytes) (drop r.end bytes) j ∙ sym (settle_found (between r.start r.end bytes) j)
+  settles false f = used_up bytes s₀ e₀ r.start r.end r.checked w.reached (w.used f)
+
   -- a walk over all that comes, after d bytes dropped and k run through the checksum before it
-  goes_on : (d k : ℕ) → after e₀ (d + s₀) k (from s₀ e₀ bytes) ≡ after r.end (d + r.start) (k + r.checked) (from r.start r.end bytes)
-  goes_on d k =
+  pub on_to_end : (d k : ℕ) → after e₀ (d + s₀) k (from s₀ e₀ bytes) ≡ after r.end (d + r.start) (k + r.checked) (settle (between r.start r.end bytes))
+  on_to_end d k =
       let v = w.reached in
       let t : e₀ + (r.end - e₀) ≡ r.end = omega (arith, v.behind) in
       let f : d + s₀ + (r.start - s₀) ≡ d + r.start = omega (arith, v.front) in
       let u : from s₀ e₀ bytes ≡ after (r.end - e₀) (r.start - s₀) r.checked (from r.start r.end bytes) = simp append-nil at (v.same []) in
-      ap (after e₀ (d + s₀) k) u ∙ after_after e₀ (d + s₀) k (r.end - e₀) (r.start - s₀) r.checked (from r.start r.end bytes) ∙ rw (t, f)
-
-  pub on_to_packet : (d k : ℕ) → r.found ≡ true → after e₀ (d + s₀) k (from s₀ e₀ bytes) ≡ after r.end (d + r.start) (k + r.checked) (found (between r.start r.end bytes))
-  on_to_packet d k f = goes_on d k ∙ ap (after r.end (d + r.start) (k + r.checked)) (finds (between r.start r.end bytes) (drop r.end bytes) (is_packet_lem f))
-
-  pub on_to_wait : (d k : ℕ) → r.found ≡ false → after e₀ (d + s₀) k (from s₀ e₀ bytes) ≡ after r.end (d + r.start) (k + r.checked) (still (between r.start r.end bytes))
-  on_to_wait d k f = goes_on d k ∙ ap (after r.end (d + r.start) (k + r.checked)) (used_up bytes s₀ e₀ r.start r.end r.checked w.reached (is_wait f) (w.used f))
+      ap (after e₀ (d + s₀) k) u ∙ after_after e₀ (d + s₀) k (r.end - e₀) (r.start - s₀) r.checked (from r.start r.end bytes)
+      ∙ rw (t, f) (ap (after r.end (d + r.start) (k + r.checked)) (settles r.found refl))

@@ -11,7 +11,7 @@ use Rattle.lists.specs.Runs.{pasted}
 use Rattle.lists.proofs.Laws.{pasted_fits, length-pasted}
 use Rattle.packets.proofs.Bytes.{padding}
 use Rattle.framing.specs.declared.Walked.{Walked}
-use Rattle.framing.specs.Scan.{still, after, found, scan}
+use Rattle.framing.specs.Scan.{after, settle, scan}
 use Rattle.framing.specs.Walk.{between, from, Walks}
 use Rattle.framing.proofs.Turns.{waits, is_packet_lem, is_wait, brought, used_up}
 
@@ -61,13 +61,13 @@ module _ (w p : List ℕ) (c : ℕ) (r : Walked) (h : drop c w ≡ take 25 p) (n
       let z : from 0 c (w ++ drop 25 p) ≡ scan (take c w) p = rw (x, take-append-le c w (drop 25 p) n, behind) in
       sym z ∙ k.reached.same (drop 25 p) ∙ rw y
 
-  pub to_packet : r.found ≡ true → scan (take c w) p ≡ after (r.end - c) r.start r.checked (found (between r.start r.end w))
+  pub to_packet : r.found ≡ true → scan (take c w) p ≡ after (r.end - c) r.start r.checked (settle (between r.start r.end w))
   to_packet f = reaches ∙ ap (after (r.end - c) r.start r.checked) (brought w 0 c r.start r.end r.checked k.reached (is_packet_lem w 0 c r k f) (drop 25 p))
 
-  pub to_wait : r.found ≡ false → r.end - c ≡ length p → scan (take c w) p ≡ after (r.end - c) r.start r.checked (still (between r.start r.end w))
+  pub to_wait : r.found ≡ false → r.end - c ≡ length p → scan (take c w) p ≡ after (r.end - c) r.start r.checked (settle (between r.start r.end w))
   to_wait f g =
       let x : drop 25 p ≡ [] = drop_of_length-le p {i = 25} (omega (arith, window_size w p c h n, k.used f)) in
-      let y : from r.start r.end (w ++ drop 25 p) ≡ still (between r.start r.end w) = rw (x, append-nil) (used_up w 0 c r.start r.end r.checked k.reached (is_wait w 0 c r k f) (k.used f)) in
+      let y : from r.start r.end (w ++ drop 25 p) ≡ settle (between r.start r.end w) = rw (x, append-nil) (used_up w 0 c r.start r.end r.checked k.reached (k.used f)) in
       reaches ∙ ap (after (r.end - c) r.start r.checked) y
 
   -- the bytes of earlier calls are gone where the piece has more

@@ -1,6 +1,5 @@
 -- Calls repeated until all is taken and the answer is waiting; and the same line read whole, without calls.
-use Rattle.std.specs.Prelude.{ℕ, zero, suc, ◌+◌, ◌≤◌, ◌≡◌, false, List, [], ◌∷◌, ◌++◌, length, get_or, take, drop}
-use Rattle.lists.specs.Tests.{when◌then◌else◌}
+use Rattle.std.specs.Prelude.{ℕ, zero, suc, ◌+◌, ◌≤◌, ◌≡◌, Option, Some, None, option_to_list, List, [], ◌∷◌, ◌++◌, length, get_or, take, drop}
 use Rattle.packets.specs.declared.Hold.{Hold}
 use Rattle.packets.specs.declared.Judgement.{Judgement}
 use Rattle.packets.specs.declared.Judgement.TheVariants.{Wait, LongLength, WrongChecksum, Packet}
@@ -26,8 +25,13 @@ abbrev pub onto : List packets.Packet → ℕ → ℕ → Tally → Tally
 onto found d c t =
     record { packets = found ++ t.packets; hold = t.hold; dropped = d + t.dropped; checked = c + t.checked }
 
-unfoldable pub packets_in : Scanned → List packets.Packet
-packets_in r = when r.found then r.packet ∷ [] else []
+abbrev pub packets_in : Scanned → List packets.Packet
+packets_in r = option_to_list r.packet
+
+-- the n + 4 bytes of the packet that a call found
+abbrev pub packet_bytes_in : Option packets.Packet → ℕ
+packet_bytes_in None = 0
+packet_bytes_in (Some p) = p.length + 4
 
 abbrev pub counted : Scanned → Tally → Tally
 counted r t = onto (packets_in r) r.counts.dropped r.counts.checked t
@@ -36,7 +40,7 @@ counted r t = onto (packets_in r) r.counts.dropped r.counts.checked t
 -- hold, come to t
 pub data Calls (most : ℕ) : Hold → List ℕ → Tally → Type 0 where
   -- the last call: all is taken and the answer is waiting
-  last : {hold : Hold} {bytes : List ℕ} {r : Scanned} → length bytes ≤ most → Scans hold bytes r → r.counts.taken ≡ length bytes → r.found ≡ false
+  last : {hold : Hold} {bytes : List ℕ} {r : Scanned} → length bytes ≤ most → Scans hold bytes r → r.counts.taken ≡ length bytes → r.packet ≡ None
       → Calls most hold bytes (counted r (nothing_more r.hold))
   -- a call on a piece, and then calls on what it has not taken and what comes behind
   next : {hold : Hold} (piece more : List ℕ) {r : Scanned} {t : Tally} → length piece ≤ most → Scans hold piece r

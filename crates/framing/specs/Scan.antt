@@ -1,5 +1,5 @@
 -- One call: it judges; on a wait it takes one more byte; it ends at the first packet, or when the piece is used up.
-use Rattle.std.specs.Prelude.{ℕ, ◌+◌, ◌≡◌, Bool, true, false, List, [], ◌∷◌, ◌++◌, get_or, take, drop}
+use Rattle.std.specs.Prelude.{ℕ, ◌+◌, ◌≡◌, Option, Some, None, List, [], ◌∷◌, ◌++◌, get_or, take, drop}
 use Rattle.packets.specs.declared.Hold.{Hold}
 use Rattle.packets.specs.declared.Judgement.{Judgement}
 use Rattle.packets.specs.declared.Judgement.TheVariants.{Wait, LongLength, WrongChecksum, Packet}
@@ -64,19 +64,14 @@ scan h [] = settle h
 scan h (b ∷ piece) = go_on (settle h).ending (settle h) (scan ((settle h).hold ++ b ∷ []) piece)
 
 -- the same as the code has it
-abbrev pub is_packet : Ending → Bool
-is_packet waiting = false
-is_packet (packet k d) = true
-
-abbrev pub packet_at : Ending → packets.Packet
-packet_at waiting = packet_of 0 []
-packet_at (packet k d) = packet_of k d
+abbrev pub packet_at : Ending → Option packets.Packet
+packet_at waiting = None
+packet_at (packet k d) = Some (packet_of k d)
 
 unfoldable pub scanned_of : Outcome → Scanned
 scanned_of o =
     record {
       hold = hold_of o.hold;
-      found = is_packet o.ending;
       packet = packet_at o.ending;
       counts = record { taken = o.taken; dropped = o.dropped; checked = o.checked };
     }

@@ -4,10 +4,11 @@
 #![tactic(auto)]
 
 ghost use Rattle.std.specs.Prelude.{◌≡◌, ◌+◌, ◌≤◌, length, take, drop};
-ghost use Rattle.packets.specs.Judge.{length_byte};
+ghost use Rattle.lists.specs.Tests.{when◌then◌else◌};
+ghost use Rattle.packets.specs.Judge.{length_byte, judge};
 ghost use Rattle.packets.specs.Packet.{content_most};
 ghost use Rattle.packets.specs.Hold.{held_most, held, hold_of};
-ghost use Rattle.framing.specs.Scan.{still, after, found, scan, scanned_of, piece_most, Scans};
+ghost use Rattle.framing.specs.Scan.{after, found, settle, scan, scanned_of, piece_most, Scans};
 ghost use Rattle.framing.specs.Walk.{needed, from, Walks};
 
 use packets::{CONTENT, HELD, Hold, Judgement, Packet};
@@ -26,16 +27,16 @@ pub struct Counts {
     pub checked: usize,
 }
 
-// What a call finds and reports. Where no packet was found, the packet is all zeros.
+// What a call finds and reports.
 #[derive(Clone, Copy)]
 pub struct Scanned {
     pub hold: Hold,
-    pub found: bool,
-    pub packet: Packet,
+    pub packet: Option<Packet>,
     pub counts: Counts,
 }
 
 // Where a walk over bytes ends: those from `start` up to `end` are held, a packet at their front or waiting for more.
+// Kept: `found` has no value beside it that is there only when it is true; the places hold in both cases.
 #[derive(Clone, Copy)]
 struct Walked {
     found: bool,
@@ -57,10 +58,11 @@ fn kept(window: &[u8]) -> Hold
     }
 }
 
-// A packet at the front of the held bytes, after `taken` bytes taken, `dropped` dropped and `checked` run through the checksum.
-fn with_packet(window: &[u8], taken: usize, dropped: usize, checked: usize) -> Scanned
-    requires { (length_byte window.now ≤ content_most) × (length_byte window.now + 4 ≤ length window.now) × (length window.now ≤ held_most + 1) × (checked ≤ 2000000) }
-    ensures { result ≡ scanned_of (after taken dropped checked (found window.now)) }
+// A call that ends with a packet at the front of the held bytes, which is removed from them.
+// Kept: replies makes packets too; one function for both would be public, and have to say what it makes of more than 22 bytes.
+fn with_packet(window: &[u8], counts: Counts) -> Scanned
+    requires { (length_byte window.now ≤ content_most) × (length_byte window.now + 4 ≤ length window.now) × (length window.now ≤ held_most + 1) × (counts.checked ≤ 2000000) }
+    ensures { result ≡ scanned_of (after counts.taken counts.dropped counts.checked (found window.now)) }
 {
     let n = lists::wide(window[1]);
     let end = n + 2;
@@ -72,39 +74,28 @@ fn with_packet(window: &[u8], taken: usize, dropped: usize, checked: usize) -> S
         length: n,
         content,
     };
-    let counts = Counts {
-        taken,
-        dropped,
-        checked: checked + end,
-    };
     Scanned {
         hold,
-        found: true,
-        packet,
-        counts,
+        packet: Some(packet),
+        counts: Counts {
+            checked: counts.checked + end,
+            ..counts
+        },
     }
 }
 
-// The call ends waiting.
-fn waiting(window: &[u8], taken: usize, dropped: usize, checked: usize) -> Scanned
-    requires { length window.now ≤ held_most }
-    ensures { result ≡ scanned_of (after taken dropped checked (still window.now)) }
+// A call that ends with these bytes held: with the packet at their front, or waiting.
+fn ended(window: &[u8], found: bool, counts: Counts) -> Scanned
+    requires { (judge window.now ≡ (when found then Judgement.Packet else Judgement.Wait)) × (length window.now ≤ held_most + 1) × (counts.checked ≤ 2000000) }
+    ensures { result ≡ scanned_of (after counts.taken counts.dropped counts.checked (settle window.now)) }
 {
+    if found {
+        return with_packet(window, counts);
+    }
     let hold = kept(window);
-    let packet = Packet {
-        kind: 0,
-        length: 0,
-        content: [0u8; CONTENT],
-    };
-    let counts = Counts {
-        taken,
-        dropped,
-        checked,
-    };
     Scanned {
         hold,
-        found: false,
-        packet,
+        packet: None,
         counts,
     }
 }
@@ -121,6 +112,7 @@ fn wanted(held: &[u8]) -> usize
 
 // Judges the bytes from `first` up to `next`, which are held. A drop moves the front and a wait the end, so that nothing is
 // copied. The walk ends at a packet, or at a wait where the bytes are used up.
+// Kept: a judgement moves the front, the end or neither, so that no iterator goes over these bytes.
 fn walk(bytes: &[u8], first: usize, next: usize) -> Walked
     requires { (first ≤ next) × (next ≤ first + (held_most + 1)) × (next ≤ length bytes.now) × (length bytes.now ≤ piece_most) }
     ensures { Walks bytes.now first next result }
@@ -162,28 +154,18 @@ fn walk(bytes: &[u8], first: usize, next: usize) -> Walked
 }
 
 // The rest of a call that holds bytes of the piece alone, those from `first` up to `next`, with `dropped` dropped before them.
+// Kept: no type of std's is a slice of at most 65,535 bytes, so that the four functions behind `scan` ask for it.
 fn scan_rest(piece: &[u8], first: usize, next: usize, dropped: usize, checked: usize) -> Scanned
     requires { (first ≤ next) × (next ≤ first + (held_most + 1)) × (next ≤ length piece.now) × (length piece.now ≤ piece_most) × (dropped ≤ held_most) × (checked ≤ 2000) }
     ensures { result ≡ scanned_of (after next (dropped + first) checked (from first next piece.now)) }
 {
     let w = walk(piece, first, next);
-    let start = w.start;
-    let end = w.end;
-    if w.found {
-        with_packet(
-            &piece[start..end],
-            end,
-            dropped + start,
-            checked + w.checked,
-        )
-    } else {
-        waiting(
-            &piece[start..end],
-            end,
-            dropped + start,
-            checked + w.checked,
-        )
-    }
+    let counts = Counts {
+        taken: w.end,
+        dropped: dropped + w.start,
+        checked: checked + w.checked,
+    };
+    ended(&piece[w.start..w.end], w.found, counts)
 }
 
 // A call that holds the first `count` bytes of the window, which are of earlier calls; the piece's first 25 stand behind them
@@ -193,16 +175,16 @@ fn scan_window(window: &[u8], count: usize, piece: &[u8]) -> Scanned
     ensures { result ≡ scanned_of (scan (take count window.now) piece.now) }
 {
     let w = walk(window, 0, count);
-    let start = w.start;
-    let end = w.end;
-    let taken = end - count;
-    if w.found {
-        return with_packet(&window[start..end], taken, start, w.checked);
+    let taken = w.end - count;
+    if w.found || taken == piece.len() {
+        let counts = Counts {
+            taken,
+            dropped: w.start,
+            checked: w.checked,
+        };
+        return ended(&window[w.start..w.end], w.found, counts);
     }
-    if taken == piece.len() {
-        return waiting(&window[start..end], taken, start, w.checked);
-    }
-    scan_rest(piece, start - count, taken, count, w.checked)
+    scan_rest(piece, w.start - count, taken, count, w.checked)
 }
 
 fn scan_part(hold: Hold, piece: &[u8]) -> Scanned

@@ -1,9 +1,11 @@
-// The eight special glyphs: an array of eight-byte arrays while they are set or drawn, flat in the state; and which codes draw them.
+// The eight special glyphs: an array of eight-byte arrays while they are drawn, flat in the state; and which codes draw them.
 #![tactic(auto)]
 
-ghost use Rattle.std.specs.Prelude.{◌≡◌, set};
-ghost use Rattle.glyphs.specs.Glyphs.{flat_of, Reads8, Nests, SetsGlyph};
+ghost use Rattle.std.specs.Prelude.{◌*◌, ◌<◌};
+ghost use Rattle.glyphs.specs.Glyphs.{Reads8, Nests, SetsGlyph};
 ghost use Rattle.glyphs.specs.Source.{TellsSpecial};
+
+use std::array;
 
 // How many glyphs there are, the rows of each, and the bytes of all.
 pub const GLYPHS: usize = 8;
@@ -26,57 +28,25 @@ pub fn is_special(code: u8) -> bool
 pub fn eight(bytes: &[u8], from: u16) -> [u8; ROWS]
     ensures { Reads8 bytes.now from result }
 {
-    let mut rows = [0u8; ROWS];
-    let mut k: usize = 0;
-    while k < ROWS {
-        rows[k] = lists::at(bytes, from as usize + k);
-        k += 1;
-    }
-    rows
+    array::from_fn(|k| lists::at(bytes, usize::from(from) + k))
 }
 
 // The glyphs as eight arrays of eight rows.
 pub fn nested(flat: [u8; FLAT]) -> [[u8; ROWS]; GLYPHS]
     ensures { Nests flat result }
 {
-    let mut glyphs = [[0u8; ROWS]; GLYPHS];
-    let mut n: usize = 0;
-    while n < GLYPHS {
-        glyphs[n] = eight(&flat, (ROWS * n) as u16);
-        n += 1;
-    }
-    glyphs
-}
-
-// The glyphs one behind the other.
-fn flattened(glyphs: [[u8; ROWS]; GLYPHS]) -> [u8; FLAT]
-    ensures { result ≡ flat_of glyphs }
-{
-    let mut flat = [0u8; FLAT];
-    let mut g: usize = 0;
-    while g < GLYPHS {
-        let glyph = glyphs[g];
-        lists::paste(&mut flat, ROWS * g, &glyph);
-        g += 1;
-    }
-    flat
+    array::from_fn(
+        |n| -> [u8; ROWS]
+            requires { n < GLYPHS }
+            ensures { Reads8 flat (8 * n) result }
+        { eight(&flat, (ROWS * n) as u16) },
+    )
 }
 
 // The glyphs with one of them set; where there is none of that number, as they are.
-fn set(glyphs: [[u8; ROWS]; GLYPHS], number: u8, rows: [u8; ROWS]) -> [[u8; ROWS]; GLYPHS]
-    ensures { result ≡ set glyphs number rows }
-{
-    let n = number as usize;
-    let mut g = glyphs;
-    if n < GLYPHS {
-        g[n] = rows;
-    }
-    g
-}
-
-// The glyphs with one of them set.
-pub fn with_glyph(flat: [u8; FLAT], number: u8, rows: [u8; ROWS]) -> [u8; FLAT]
+pub fn with_glyph(mut flat: [u8; FLAT], number: u8, rows: [u8; ROWS]) -> [u8; FLAT]
     ensures { SetsGlyph flat number rows result }
 {
-    flattened(set(nested(flat), number, rows))
+    lists::paste(&mut flat, ROWS * lists::wide(number), &rows);
+    flat
 }

@@ -1,34 +1,34 @@
 -- What a composer for C says and promises: the tables of include/naupelys_host.h.
-use Rattle.std.specs.Prelude.{ℕ, ◌≡◌, List}
+use Rattle.std.specs.Prelude.{ℕ, ◌≡◌, List, Result, Ok, Err}
 use Rattle.answers.specs.declared.Answer.TheVariants as answers
 use Rattle.answers.specs.declared.Numbers.{Numbers}
 use Rattle.answers.specs.Answer.{numbered, numbers_of, no_counts}
 use Rattle.saidbytes.specs.Says.{said_bytes}
-use Rattle.composer.specs.declared.Composing.{Composing}
-use Rattle.composer.specs.declared.Composing.TheVariants.{BufferSize, Refused, Written}
+use Rattle.composer.specs.declared.Written.{Written}
+use Rattle.composer.specs.declared.ComposeError.{ComposeError}
+use Rattle.composer.specs.declared.ComposeError.TheVariants.{BufferSize, Refused}
 use Rattle.composer.specs.Compose.{composing, packet_by}
 use Rattle.commands.specs.declared.Command.{Command}
 use Rattle.commands.specs.Commands.{code_of, data_of}
 
 -- a composer's answer in the papers' numbers: "21, the composer's buffer not 26 bytes"; a refused packet and a done command are
 -- told as the panel tells them
-unfoldable pub compose_numbers : Composing → Numbers
-compose_numbers BufferSize = numbered 21 0
-compose_numbers (Refused command reason place) = numbers_of (answers.Refused command reason place)
-compose_numbers (Written command size) = numbers_of (answers.Done command)
+unfoldable pub compose_numbers : Result Written ComposeError → Numbers
+compose_numbers (Ok w) = numbers_of (answers.Done w.command)
+compose_numbers (Err BufferSize) = numbered 21 0
+compose_numbers (Err (Refused command reason place)) = numbers_of (answers.Refused command reason place)
 
 -- the packet's length, 0 where none is written
-unfoldable pub packet_length : Composing → ℕ
-packet_length BufferSize = 0
-packet_length (Refused command reason place) = 0
-packet_length (Written command size) = size
+unfoldable pub packet_length : Result Written ComposeError → ℕ
+packet_length (Ok w) = w.size
+packet_length (Err e) = 0
 
 -- the 16 bytes, placed as in what the panel's calls say
-abbrev pub compose_said : Composing → List ℕ
+abbrev pub compose_said : Result Written ComposeError → List ℕ
 compose_said r = said_bytes (compose_numbers r) no_counts (packet_length r) 0
 
 -- what `told` promises of the number that it returns and of the 16 bytes
-abbrev pub TellsComposing : Composing → ℕ → List ℕ → Type 0
+abbrev pub TellsComposing : Result Written ComposeError → ℕ → List ℕ → Type 0
 TellsComposing r n said' = (n ≡ (compose_numbers r).number) × (said' ≡ compose_said r)
 
 -- what `naupelys_compose` promises of the number that it returns, of the packet's buffer and of the 16 bytes

@@ -3,36 +3,33 @@
 
 ghost use Rattle.host.specs.Calls.{TellsComposing, ComposeBytes, CommandBytes};
 
-use answers::Answer;
+use answers::{Answer, NO_COUNTS};
 use commands::Command;
-use composer::Composing;
-use framing::Counts;
+use composer::{ComposeError, Written};
 use saidbytes::SAID;
 
 // A composer's answer written as what the call says; its number.
-fn told(said: &mut [u8; SAID], r: Composing) -> u8
+// Kept: 21 is C's number (`compose_numbers`).
+#[tactic(auto, unfolding(crate::specs::Calls::compose_numbers, crate::specs::Calls::packet_length, saidbytes::specs::Says::said_bytes, shapes::specs::Shape::bytes))]
+fn told(said: &mut [u8; SAID], r: Result<Written, ComposeError>) -> u8
     ensures { TellsComposing r result said.new }
 {
-    let none = Counts {
-        taken: 0,
-        dropped: 0,
-        checked: 0,
-    };
     match r {
-        Composing::BufferSize => {
-            *said = [21, 0, 0, 0, 0, 0, 0, 0, 0, 0, 0, 0, 0, 0, 0, 0];
+        Ok(w) => saidbytes::write(said, Answer::Done(w.command), NO_COUNTS, w.size, 0),
+        Err(ComposeError::Refused(command, reason, place)) => {
+            saidbytes::write(
+                said,
+                Answer::Refused(command, reason, place),
+                NO_COUNTS,
+                0,
+                0,
+            )
+        }
+        Err(ComposeError::BufferSize) => {
+            *said = [0; SAID];
+            said[0] = 21;
             21
         }
-        Composing::Refused(command, reason, place) => {
-            saidbytes::write(said, Answer::Refused(command, reason, place), none, 0, 0)
-        }
-        Composing::Written(command, size) => saidbytes::write(
-            said,
-            Answer::Done(command),
-            none,
-            size,
-            0,
-        ),
     }
 }
 

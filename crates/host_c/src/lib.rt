@@ -1,4 +1,5 @@
 // The host's calls for C, by the names of include/naupelys_host.h: each is the library's, with its promise.
+// Kept: buffers of any length and a number for each answer, since C calls these names.
 #![tactic(auto)]
 
 ghost use Rattle.commands.specs.declared.Command.{Command};

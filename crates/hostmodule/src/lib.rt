@@ -1,4 +1,5 @@
 // A ping, the flash, a reboot and the memory, composed for a C caller: each hands on to the one composer.
+// Kept: a function for each command, since include/naupelys_host.h gives each its own name and plain values.
 #![tactic(auto)]
 
 ghost use Rattle.std.specs.Prelude.{[]};

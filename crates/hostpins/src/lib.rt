@@ -1,4 +1,5 @@
 // The masks of the keys and the pins, composed for a C caller: each hands on to the one composer.
+// Kept: a function for each command, since include/naupelys_host.h gives each its own name and plain values.
 #![tactic(auto)]
 
 ghost use Rattle.std.specs.Prelude.{[]};

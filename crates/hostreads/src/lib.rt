@@ -1,12 +1,10 @@
 // Reading what a panel writes for a C caller: the call of include/naupelys_host.h over lent bytes.
 #![tactic(auto)]
 
-ghost use Rattle.std.specs.Prelude.{◌≡◌, [], ◌∷◌, ◌≤◌};
+ghost use Rattle.std.specs.Prelude.{◌≡◌, ◌∷◌, ◌≤◌, length};
 ghost use Rattle.packets.specs.Packet.{content_most, padded};
-ghost use Rattle.replies.specs.Replies.{bit};
-ghost use Rattle.hostreads.specs.Reads.{reading_size, reading_bytes, read_number, ReadBytes};
+ghost use Rattle.hostreads.specs.Reads.{reading_size, reading_bytes, ReadBytes};
 
-use packets::CONTENT;
 use reading::{Meaning, Reading};
 
 // How many bytes a reading takes, and where its values begin.
@@ -14,57 +12,28 @@ pub const READING: usize = 26;
 
 const VALUES: usize = 3;
 
-// A reading of five bytes at most, zeros behind them.
-fn short_reading(kind: u8, command: u8, count: u8, first: u8, second: u8) -> [u8; READING]
-    ensures { result ≡ padded reading_size (kind ∷ command ∷ count ∷ first ∷ second ∷ []) }
+// A reading that begins with these bytes, zeros behind them.
+// Kept: no type of std's is a slice of at most 22 bytes.
+fn laid(kind: u8, command: u8, count: u8, values: &[u8]) -> [u8; READING]
+    requires { length values.now ≤ content_most }
+    ensures { result ≡ padded reading_size (kind ∷ command ∷ count ∷ values.now) }
 {
     let mut out = [0u8; READING];
-    out[0] = kind;
-    out[1] = command;
-    out[2] = count;
-    out[3] = first;
-    out[4] = second;
+    out[..VALUES].copy_from_slice(&[kind, command, count]);
+    out[VALUES..VALUES + values.len()].copy_from_slice(values);
     out
 }
 
-// The reading of a reply, with its values.
-fn reply_reading(command: u8, count: u8, values: [u8; CONTENT]) -> [u8; READING]
-    ensures { result ≡ padded reading_size (1 ∷ command ∷ count ∷ values) }
-{
-    let mut out = short_reading(1, command, count, 0, 0);
-    lists::paste(&mut out, VALUES, &values);
-    out
-}
-
-fn down_bit(down: bool) -> u8
-    ensures { result ≡ bit down }
-{
-    if down { 1 } else { 0 }
-}
-
+// Kept: the kinds 1 to 3 are C's numbers, as are 3 and 29 below (`ReadBytes`).
+#[tactic(auto, unfolding(crate::specs::Reads::reading_parts))]
 fn reading_bytes(r: Reading) -> [u8; READING]
     requires { r.count ≤ content_most }
     ensures { result ≡ reading_bytes r }
 {
-    let values = r.values;
-    let count = r.count as u8;
-    let meaning = r.meaning;
-    match meaning {
-        Meaning::Unreadable => [0u8; READING],
-        Meaning::Reply(command) => reply_reading(command, count, values),
-        Meaning::ErrorReply(command) => short_reading(2, command, 0, 0, 0),
-        Meaning::Report { number, down } => short_reading(3, 0, 2, number, down_bit(down)),
-    }
-}
-
-fn read_number(meaning: Meaning) -> u8
-    ensures { result ≡ read_number meaning }
-{
-    match meaning {
-        Meaning::Unreadable => 29,
-        Meaning::Reply(_) => 3,
-        Meaning::ErrorReply(_) => 3,
-        Meaning::Report { number: _, down: _ } => 3,
+    match r.meaning {
+        Meaning::Reply(command) => laid(1, command, r.count as u8, &r.values),
+        Meaning::ErrorReply(command) => laid(2, command, 0, &[]),
+        Meaning::Report { number, down } => laid(3, 0, 2, &[number, u8::from(down)]),
     }
 }
 
@@ -72,8 +41,14 @@ fn read_number(meaning: Meaning) -> u8
 pub fn naupelys_read_reply(bytes: &[u8], out: &mut [u8; READING]) -> u8
     ensures { ReadBytes bytes.now result out.new }
 {
-    let r = reading::read(bytes);
-    let meaning = r.meaning;
-    *out = reading_bytes(r);
-    read_number(meaning)
+    match reading::read(bytes) {
+        Some(r) => {
+            *out = reading_bytes(r);
+            3
+        }
+        None => {
+            *out = [0u8; READING];
+            29
+        }
+    }
 }

@@ -3,7 +3,10 @@
 
 ghost use Rattle.hostrecordings.specs.Next.{TellsNext};
 
-use recordings::PACKET;
+// The numbers of an answer: there is no more, or a packet. Those of what is wrong with a recording are 22 to 26.
+const NO_MORE: u8 = 1;
+
+const PACKET: u8 = 3;
 
 // The next host packet from the place on. Without one the lent numbers are as they came.
 pub fn naupelys_recording_next(
@@ -15,12 +18,15 @@ pub fn naupelys_recording_next(
 ) -> u8
     ensures { TellsNext recording.now place.old kind.old start.old length.old result place.new kind.new start.new length.new }
 {
-    let f = recordings::find(recording, *place);
-    if f.number == PACKET {
-        *place = f.next;
-        *kind = f.kind;
-        *start = f.start;
-        *length = f.length;
+    match recordings::find(recording, *place) {
+        Ok(Some(f)) => {
+            *place = f.next;
+            *kind = f.kind;
+            *start = f.start;
+            *length = f.length;
+            PACKET
+        }
+        Ok(None) => NO_MORE,
+        Err(fault) => u8::from(fault.flaw),
     }
-    f.number
 }

@@ -7,10 +7,11 @@ use tally::{CallTold, REFUSED, Sums, WAITING};
 
 // Which bytes of the piece no call has taken yet; whether no more calls are made, and whether a failed read or lost output is
 // why; the last call and the sums of all.
-#[derive(Clone, Copy)]
+#[derive(Clone, Copy, Default)]
 pub struct Session {
     pub at: usize,
     pub end: usize,
+    // Kept: `PieceCame` and `CallMade` say each of the three by itself: a failed read of some bytes is not over, and a call leaves `failed`.
     pub over: bool,
     pub failed: bool,
     pub lost: bool,
@@ -24,30 +25,11 @@ pub fn started() -> Session
 {
     let call = CallTold {
         number: WAITING,
-        command: 0,
-        reason: 0,
-        place: 0,
-        taken: 0,
-        dropped: 0,
-        checked: 0,
-        reply: 0,
-        listed: 0,
-    };
-    let sums = Sums {
-        events: 0,
-        offset: 0,
-        taken: 0,
-        dropped: 0,
-        checked: 0,
+        ..CallTold::default()
     };
     Session {
-        at: 0,
-        end: 0,
-        over: false,
-        failed: false,
-        lost: false,
         call,
-        sums,
+        ..Session::default()
     }
 }
 
@@ -76,13 +58,11 @@ pub fn with_piece(s: Session, count: usize, failed: bool) -> Session
 pub fn with_call(s: Session, at: usize, held: u64, call: CallTold) -> Session
     ensures { CallMade s at held call result }
 {
-    let sums = tally::with_call(s.sums, held, call);
-    let taken = lists::at_most(call.taken as usize, usize::MAX - at);
     Session {
-        at: at + taken,
+        at: at.saturating_add(call.taken as usize),
         over: REFUSED <= call.number,
         call,
-        sums,
+        sums: tally::with_call(s.sums, held, call),
         ..s
     }
 }

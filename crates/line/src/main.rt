@@ -2,29 +2,15 @@
 #![tactic(auto)]
 
 use kept::{Session, going};
-use session::sizes::{FAULTS, FONT, LIST, PICTURE, PIECE, REPLY, SAID, STATE};
-use statebytes::places::COUNT;
-use std::io::{ErrorKind, Read};
+use session::Desk;
+use session::sizes::PIECE;
+use std::io;
+use std::io::Read;
 use tally::WAITING;
 
-// Writes the front of a buffer; whether all of it was written. A failed write is told on standard error, but for one that nobody
-// reads, which ends the program without a word.
-fn put<R: Print + Eprint>(rt: &R, out: &[u8], length: usize) -> bool {
-    let n = lists::at_most(length, out.len());
-    match rt.write_all(&out[..n]) {
-        Ok(()) => true,
-        Err(why) => {
-            if why.kind() != ErrorKind::BrokenPipe {
-                say(rt, "line: standard output cannot be written");
-            }
-            false
-        }
-    }
-}
-
-// A line on standard error. Where that cannot be written either, nobody can be told.
-fn say<R: Eprint>(rt: &R, words: &str) {
-    let _ = rt.eprintln(words);
+// A line on standard output.
+fn write<R: Print + Eprint>(rt: &R, line: &[u8]) -> io::Result<()> {
+    telling::write(rt, line, "line: standard output cannot be written")
 }
 
 // The line of the packet that the last call found; the session ends where it cannot be written.
@@ -34,81 +20,48 @@ fn told<R: Print + Eprint>(rt: &R, s: Session) -> Session {
     }
     let mut out = [0u8; 200];
     let n = lines::event(&mut out, s.sums.events, s.sums.offset, s.call);
-    if put(rt, &out, n) {
-        return s;
-    }
-    Session {
-        over: true,
-        lost: true,
-        ..s
+    match write(rt, &out[..n]) {
+        Ok(()) => s,
+        Err(_) => Session {
+            over: true,
+            lost: true,
+            ..s
+        },
     }
 }
 
 // The steps of a session, to its end.
-fn hear<R: Print + Eprint, I: Read>(
-    rt: &R,
-    input: &mut I,
-    piece: &mut [u8; PIECE],
-    state: &mut [u8; STATE],
-    picture: &mut [u8; PICTURE],
-    font: &[u8; FONT],
-    list: &mut [u8; LIST],
-    reply: &mut [u8; REPLY],
-    faults: &mut [u8; FAULTS],
-    said: &mut [u8; SAID],
-) -> Session {
+// Kept: the steps are counted, since a proved loop has to end (`going`).
+fn hear<R: Print + Eprint, I: Read>(rt: &R, input: &mut I, desk: &mut Desk) -> Session {
+    let mut piece = [0u8; PIECE];
     let mut s = kept::started();
-    let mut steps: u64 = 0;
-    while going(steps, s.over) {
-        let called = session::step(
-            s, input, piece, state, picture, font, list, reply, faults, said,
-        );
-        s = told(rt, called);
-        steps += 1;
+    for steps in 0..u64::MAX {
+        if !going(steps, s.over) {
+            break;
+        }
+        s = told(rt, desk.step(s, input, &mut piece));
     }
     s
 }
 
 // A failed read is told on standard error, and the last line is written, unless output was lost.
-fn finish<R: Print + Eprint>(rt: &R, s: Session, state: &[u8; STATE]) {
+fn finish<R: Print + Eprint>(rt: &R, s: Session, held: u64) {
     if s.failed {
-        say(rt, "line: standard input cannot be read");
+        telling::say(rt, "line: standard input cannot be read");
     }
     if s.lost {
         return;
     }
     let mut out = [0u8; 200];
-    let held = lists::at(state, COUNT) as u64;
     let n = lines::end(&mut out, s.sums, held);
-    put(rt, &out, n);
+    let _ = write(rt, &out[..n]);
 }
 
 fn main(rt: HostRuntime) {
-    let heading = b"event offset kind command reason place cells\n";
-    if !put(&rt, heading, heading.len()) {
+    if write(&rt, b"event offset kind command reason place cells\n").is_err() {
         return;
     }
-    let font = font::program_font();
-    let mut state = [0u8; STATE];
-    let mut picture = [0u8; PICTURE];
-    let mut said = [0u8; SAID];
-    naupelys::naupelys_power_on(&mut state, &mut picture, &font, &mut said);
-    let mut piece = [0u8; PIECE];
-    let mut list = [0u8; LIST];
-    let mut reply = [0u8; REPLY];
-    let mut faults = [0u8; FAULTS];
-    let mut input = rt.stdin();
-    let s = hear(
-        &rt,
-        &mut input,
-        &mut piece,
-        &mut state,
-        &mut picture,
-        &font,
-        &mut list,
-        &mut reply,
-        &mut faults,
-        &mut said,
-    );
-    finish(&rt, s, &state);
+    let mut desk = Desk::powered_on(font::program_font());
+    let s = hear(&rt, &mut rt.stdin(), &mut desk);
+    finish(&rt, s, desk.held());
 }

@@ -3,16 +3,15 @@ use Prim.Native.Nat.{ℕ, ◌<◌}
 use mathlib.Core.Path.{◌≡◌, refl, sym, ◌∙◌, ap}
 use mathlib.Core.Bool.{Bool, true, false}
 use mathlib.Core.List.{List}
-use borrow.Author.Tests.{eqb-true, ne_eqb, lt-ltb, le-ltb}
-use native.Mathlib.Omega.{arith}
+use borrow.Author.Tests.{eqb-true, lt-ltb, le-ltb}
 use lib.ListN.{length}
+use Rattle.std.specs.Prelude.{Ok, Err}
 use Rattle.lists.proofs.Laws.{when_true, when_false}
 use Rattle.shapes.specs.Shape.{Sized, Bytes}
 use Rattle.panel.specs.declared.Panel.{Panel}
 use Rattle.panel.specs.State.{line_unfiled}
 use Rattle.answers.specs.declared.Check.{Check}
 use Rattle.answers.specs.declared.Check.TheVariants.{StateRange}
-use Rattle.answers.specs.declared.Checked.TheVariants.{Passes, Fails}
 use Rattle.answers.specs.declared.Answer.TheVariants.{CallRefused}
 use Rattle.answers.specs.declared.Said.{Said}
 use Rattle.answers.specs.Answer.{check_number, numbers_of, is_done, with_unfiled}
@@ -31,7 +30,7 @@ use Rattle.statebytes.specs.State.{bytes_of, panel_of, is_state, state_with, ran
 use Rattle.statebytes.proofs.Theorems.{line_written}
 use Rattle.saidbytes.specs.Says.{number_of, bytes_said, refused_bytes, SaysRefused}
 use Rattle.linebytes.specs.Line.{files_by, faults_after, state_after, LineBytes, TurnsDown, CarriesOut}
-use Rattle.linebytes.proofs.Filed.{none_filed}
+use Rattle.linebytes.proofs.Filed.{none_filed, done_unfiled}
 use Rattle.linebytes.proofs.OnState.{on_state_lem, on_none}
 
 -- a call that is said so on a panel, over that panel's bytes
@@ -55,7 +54,7 @@ module _ (s : List ℕ) (l : Lent) (f : List ℕ) (e : is_state s ≡ true) (t :
 abbrev tests_on : List ℕ → Lent → List Test
 tests_on s l = line_tests (ranges_of s) (length l.piece) (sizes_of l) (length l.reply)
 
-none_checked : (s : List ℕ) (l : Lent) → is_state s ≡ false → checked_by (tests_on s l) ≡ Fails StateRange
+none_checked : (s : List ℕ) (l : Lent) → is_state s ≡ false → checked_by (tests_on s l) ≡ Err StateRange
 unfolding ranges_of decided
 none_checked s l e = when_false _ _ _ (when_false _ _ _ e)
 
@@ -64,7 +63,7 @@ unfolding ranges_of
 state_checked s l e = ap (λ (b : Bool). line_tests b (length l.piece) (sizes_of l) (length l.reply)) (when_true _ _ _ e)
 
 -- a call that is refused by number
-module _ (s : List ℕ) (l : Lent) (f : List ℕ) (c : Check) (fails : checked_by (tests_on s l) ≡ Fails c) {m : ℕ} {said' : List ℕ} (says : SaysRefused c m said') where
+module _ (s : List ℕ) (l : Lent) (f : List ℕ) (c : Check) (fails : checked_by (tests_on s l) ≡ Err c) {m : ℕ} {said' : List ℕ} (says : SaysRefused c m said') where
   none_refused : is_state s ≡ false → LineBytes s l f m s l.picture l.list l.reply f said'
   unfolding numbers_of check_number
   none_refused e =
@@ -86,7 +85,7 @@ module _ (s : List ℕ) (l : Lent) (f : List ℕ) (c : Check) (fails : checked_b
       let all = says_refused p l c (rw (state_checked s l e) at fails) in
       let ten = refused_from_ten c in
       said_of_bytes s l f e _ all.0 says.0 (sym (when_false _ _ _ (le-ltb _ _ ten))) all.1 all.2 all.3
-      (none_filed (CallRefused c) p.line.unfiled f (ne_eqb (numbers_of (CallRefused c)).number 4 (λ z. absurd (omega (arith, ten))))).1 says.1
+      (none_filed (CallRefused c) p.line.unfiled f refl).1 says.1
 
   pub refused_line : LineBytes s l f m s l.picture l.list l.reply f said'
   refused_line = go (is_state s) refl
@@ -96,7 +95,7 @@ module _ (s : List ℕ) (l : Lent) (f : List ℕ) (c : Check) (fails : checked_b
       go false e = none_refused e
 
 -- a call whose checks pass
-module _ (s : List ℕ) (l : Lent) (f : List ℕ) (passes : checked_by (tests_on s l) ≡ Passes) {h : Heard} {reply₁ : List ℕ} (hears : HearsPiece (line_read_of s) l.piece l.reply h reply₁) where
+module _ (s : List ℕ) (l : Lent) (f : List ℕ) (passes : checked_by (tests_on s l) ≡ Ok tt) {h : Heard} {reply₁ : List ℕ} (hears : HearsPiece (line_read_of s) l.piece l.reply h reply₁) where
   abbrev p : Panel
   p = panel_of s
 
@@ -105,7 +104,7 @@ module _ (s : List ℕ) (l : Lent) (f : List ℕ) (passes : checked_by (tests_on
     where
       go : (t : Bool) → is_state s ≡ t → is_state s ≡ true
       go true e = e
-      go false e = let z : Fails StateRange ≡ Passes = sym (none_checked s l e) ∙ passes in let y : ◌≡◌ {A = ℕ} 0 1 = cc in absurd (omega arith)
+      go false e = let z : Err StateRange ≡ Ok tt = sym (none_checked s l e) ∙ passes in absurd (cc)
 
   -- the line's part is heard as the panel's
   heard_as : (h ≡ line_heard p l) × (reply₁ ≡ reply_once_heard p l)
@@ -118,7 +117,7 @@ module _ (s : List ℕ) (l : Lent) (f : List ℕ) (passes : checked_by (tests_on
   turned_down_line d small sized w =
       let q = heard_as in
       let all = says_left p l q.0 q.1 d in
-      let below : (numbers_of h.answer).number < 10 = rw hears.0 (heard_number _ _) in
+      let below : (numbers_of h.answer).number < 10 = rw hears.0 (heard_number _) in
       let written = line_written s (eqb-true _ _ state_passed) small (line_unfiled h.line (files_by h.answer h.line.unfiled f).unfiled) sized in
       said_of_bytes s l f state_passed _ all.0 w.number (w.state ∙ written ∙ sym (when_true _ _ _ (lt-ltb _ _ below))) all.1 all.2 all.3 w.faults w.said
 
@@ -134,7 +133,7 @@ module _ (s : List ℕ) (l : Lent) (f : List ℕ) (passes : checked_by (tests_on
       let did : Performs p.body h.packet l.picture l.font l.list reply₁ z p' l' r' = record { body = refl; written = refl; replied = rw body at w.reply; repaints = rw body at w.repaints } in
       let all = says_performed p l q.0 q.1 d did in
       let three = done_number h.answer d in
-      let unfiled = none_filed h.answer h.line.unfiled f (rw three) in
+      let unfiled = none_filed h.answer h.line.unfiled f (done_unfiled h.answer d) in
       said_of_bytes s l f e (said_with h z) all.0 w.number
       ((rw body at w.state) ∙ when_true _ _ _ e ∙ ap (λ (u : ℕ). bytes_of (record { line = line_unfiled h.line u; body = c.body })) unfiled.0 ∙ sym (when_true _ _ _ (rw three)))
       all.1 all.2 all.3 unfiled.1 (rw body at w.said)

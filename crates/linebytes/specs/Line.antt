@@ -1,5 +1,5 @@
 -- What the line call over lent bytes promises of the number that it returns and of each byte lent to it.
-use Rattle.std.specs.Prelude.{ℕ, ◌≡◌, List}
+use Rattle.std.specs.Prelude.{ℕ, ◌≡◌, is_some, List}
 use Rattle.lists.specs.Tests.{when◌then◌else◌, ◌<?◌, ◌=?◌}
 use Rattle.panel.specs.declared.Panel.{Panel}
 use Rattle.panel.specs.State.{line_unfiled}
@@ -22,11 +22,11 @@ records_in size = when size =? register_size then register_records else 0
 
 -- the register and the unfiled number after an answer: "A refused packet is filed in the register."
 abbrev pub files_by : Answer → ℕ → List ℕ → Files
-files_by answer unfiled faults = filed_if (filing_of answer).refused (filing_of answer).key (record { register = register_of faults; unfiled = unfiled })
+files_by answer unfiled faults = filed_if (filing_of answer) (record { register = register_of faults; unfiled = unfiled })
 
 unfoldable pub faults_after : Answer → ℕ → List ℕ → List ℕ
 faults_after answer unfiled faults =
-    when (filing_of answer).refused then register_with faults (files_by answer unfiled faults).register else faults
+    when is_some (filing_of answer) then register_with faults (files_by answer unfiled faults).register else faults
 
 -- "a bad argument is refused by its number, and then the state and every buffer are as they came"
 unfoldable pub state_after : List ℕ → Said → List ℕ

@@ -5,7 +5,7 @@ ghost use Rattle.std.specs.Prelude.{◌≡◌, length};
 ghost use Rattle.linecall.specs.Line.{lent};
 ghost use Rattle.linebytes.specs.Line.{records_in, FilesBytes, TurnsDown, CarriesOut, LineBytes};
 
-use answers::{Answer, Checked};
+use answers::Answer;
 use filing::RECORDS;
 use listen::{Heard, Sizes};
 use panel::Line;
@@ -13,6 +13,7 @@ use registerbytes::REGISTER;
 use saidbytes::SAID;
 
 // How many records so many bytes are; 0 where they are no register.
+#[tactic(auto, using(lists::proofs::Laws::when_true, lists::proofs::Laws::when_false), unfolding(crate::specs::Line::records_in))]
 fn records_in(size: usize) -> usize
     ensures { result ≡ records_in size }
 {
@@ -23,29 +24,29 @@ fn records_in(size: usize) -> usize
 fn file(faults: &mut [u8], answer: Answer, unfiled: u32) -> u32
     ensures { FilesBytes answer unfiled faults.old result faults.new }
 {
-    let f = answers::to_file(answer);
-    if !f.refused {
-        return unfiled;
+    match answers::to_file(answer) {
+        None => unfiled,
+        Some(refusal) => {
+            let records = registerbytes::read(faults);
+            let r = register::run::file_in(records, Some(refusal), unfiled);
+            registerbytes::write(faults, r.register);
+            r.unfiled
+        }
     }
-    let records = registerbytes::read(faults);
-    let r = register::run::file_in(records, f.refused, f.key, unfiled);
-    let left = r.register;
-    registerbytes::write(faults, left);
-    r.unfiled
 }
 
 // The end of a line call that performs nothing: of the state only the line's part changes.
 fn turned_down(state: &mut [u8], h: Heard, faults: &mut [u8], said: &mut [u8; SAID]) -> u8
     ensures { TurnsDown state.old h faults.old result state.new faults.new said.new }
 {
-    let answer = h.answer;
-    let unfiled = file(faults, answer, h.line.unfiled);
-    let line = h.line;
-    statebytes::line::write_line(state, Line { unfiled, ..line });
-    saidbytes::write(said, answer, h.counts, h.reply, 0)
+    let unfiled = file(faults, h.answer, h.line.unfiled);
+    statebytes::line::write_line(state, Line { unfiled, ..h.line });
+    saidbytes::write(said, h.answer, h.counts, h.reply, 0)
 }
 
 // The end of a line call whose command is performed.
+// Kept: the lent buffers are parameters, as in `perform::perform`, which takes them on: a struct that borrows them would be put
+// together here only to be taken apart.
 fn carried_out(
     state: &mut [u8],
     h: Heard,
@@ -66,11 +67,11 @@ fn carried_out(
         reply,
     );
     statewrites::write(state, h.line, d.body);
-    let answer = h.answer;
-    saidbytes::write(said, answer, h.counts, d.reply, d.listed)
+    saidbytes::write(said, h.answer, h.counts, d.reply, d.listed)
 }
 
 // A piece of the line. A call that is refused by number ends before the line's part is read.
+// Kept: eight parameters, since `LineBytes` and `line_determined` say this of naupelys_line's own buffers.
 pub fn line(
     state: &mut [u8],
     piece: &[u8],
@@ -91,11 +92,10 @@ pub fn line(
         records: records_in(faults.len()),
     };
     match listen::checked(in_ranges, piece.len(), sizes, reply.len()) {
-        Checked::Fails(check) => saidbytes::refused(said, check),
-        Checked::Passes => {
+        Err(check) => saidbytes::refused(said, check),
+        Ok(()) => {
             let h = listen::hear(statebytes::line::read_line(state), piece, reply);
-            let answer = h.answer;
-            if let Answer::Done(_) = answer {
+            if let Answer::Done(_) = h.answer {
                 return carried_out(state, h, picture, font, list, reply, said);
             }
             turned_down(state, h, faults, said)

@@ -5,13 +5,13 @@ use mathlib.Core.Bool.{true, false}
 use mathlib.Core.List.{List}
 use lib.ListN.{length}
 use borrow.Author.Tests.{eqb-true}
+use Rattle.std.specs.Prelude.{Ok, Err}
 use Rattle.lists.specs.Tests.{when◌then◌else◌}
 use Rattle.panel.specs.declared.Panel.{Panel}
 use Rattle.ranges.specs.Ranges.{in_ranges}
 use Rattle.picture.proofs.Changes.{changed_same, painted_same}
 use Rattle.picture.proofs.Sizes.{repaints_sized}
 use Rattle.answers.specs.declared.Check.{Check}
-use Rattle.answers.specs.declared.Checked.TheVariants.{Passes, Fails}
 use Rattle.answers.specs.Answer.{is_done, refused_call}
 use Rattle.answers.specs.Checks.{Test, checked_by}
 use Rattle.answers.proofs.Checks.{decided_fails, decided_passes, accepted_by}
@@ -77,11 +77,11 @@ module _ (p : Panel) (l : Lent) where
         let said = ap (λ (h : Heard). said_with h (record { body = p.body; reply = h.reply; listed = 0 })) e ∙ ap (said_with (line_heard p l)) (sym (left_performed u)) in
         (said, sym (left_picture u), sym (left_list u), r ∙ sym (left_reply u))
 
-  pub says_refused : (c : Check) → checked_by tests_of ≡ Fails c → LineSays p l (refused_call p c) l.picture l.list l.reply
+  pub says_refused : (c : Check) → checked_by tests_of ≡ Err c → LineSays p l (refused_call p c) l.picture l.list l.reply
   unfolding listened listened_reply is_done
   says_refused c q = says_left {h = unheard p.line c} (sym (decided_fails tests_of q _ _)) (sym (decided_fails tests_of q _ _)) refl
 
   -- a call whose checks pass hears its piece
-  pub passed_heard : checked_by tests_of ≡ Passes → {h : Heard} {reply₁ : List ℕ} → HearsPiece p.line l.piece l.reply h reply₁ → (h ≡ line_heard p l) × (reply₁ ≡ reply_once_heard)
+  pub passed_heard : checked_by tests_of ≡ Ok tt → {h : Heard} {reply₁ : List ℕ} → HearsPiece p.line l.piece l.reply h reply₁ → (h ≡ line_heard p l) × (reply₁ ≡ reply_once_heard)
   unfolding listened listened_reply
   passed_heard q w = let g = decided_passes tests_of q in (w.0 ∙ sym (accepted_by tests_of g _ _), w.1 ∙ sym (accepted_by tests_of g _ _))

@@ -79,7 +79,7 @@ line_reply p l =
 -- the register and the unfiled number after a call: the refusal that it answers with is filed, and a call refused by number files nothing
 abbrev pub files_after : Said → List Record → Files
 files_after s register =
-    filed_if (filing_of s.answer).refused (filing_of s.answer).key (record { register = register; unfiled = s.panel.line.unfiled })
+    filed_if (filing_of s.answer) (record { register = register; unfiled = s.panel.line.unfiled })
 
 -- what a line call says and leaves of the three lent buffers, but for the filing
 abbrev pub LineSays : Panel → Lent → Said → List ℕ → List ℕ → List ℕ → Type 0

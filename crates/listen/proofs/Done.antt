@@ -5,11 +5,11 @@ use mathlib.Core.Bool.{Bool, true, true≢false}
 use mathlib.Core.List.{List}
 use native.Mathlib.Omega.{arith}
 use lib.ListN.{length}
+use Rattle.std.specs.Prelude.{Option, Some, None, Result, Ok, Err}
 use Rattle.lists.specs.Tests.{when◌then◌else◌, ◌<?◌}
 use Rattle.lists.proofs.Laws.{when_either}
 use Rattle.packets.specs.declared.Packet.{Packet}
-use Rattle.verdict.specs.declared.Verdict.{Verdict}
-use Rattle.verdict.specs.declared.Verdict.TheVariants as verdicts
+use Rattle.verdict.specs.declared.Objection.{Objection}
 use Rattle.panel.specs.declared.Line.{Line}
 use Rattle.answers.specs.declared.Answer.{Answer}
 use Rattle.answers.specs.declared.Answer.TheVariants.{Waiting, Stray, Done, Refused, CallRefused}
@@ -33,15 +33,15 @@ done_number (CallRefused check) e = absurd (true≢false (sym e))
 abbrev below : Answer → Type 0
 below a = (numbers_of a).number < 10
 
-ruled_number : (v : Verdict) (code : ℕ) → below (ruling v code)
+ruled_number : (v : Result (Unit {0}) Objection) (code : ℕ) → below (ruling v code)
 unfolding ruling numbers_of
-ruled_number verdicts.Allowed code = omega arith
-ruled_number (verdicts.Refused reason place) code = omega arith
+ruled_number (Ok _) code = omega arith
+ruled_number (Err o) code = omega arith
 
-pub heard_number : (found : Bool) (p : Packet) → (numbers_of (answer_in found p)).number < 10
+pub heard_number : (p : Option Packet) → (numbers_of (answer_in p)).number < 10
 unfolding answer_in answer_to numbers_of
-heard_number found p =
-    when_either below found (answer_to p) Waiting (λ _. when_either below (p.kind <? 64) _ _ (λ _. ruled_number _ p.kind) (λ _. omega arith)) (λ _. omega arith)
+heard_number None = omega arith
+heard_number (Some p) = when_either below (p.kind <? 64) _ _ (λ _. ruled_number _ p.kind) (λ _. omega arith)
 
 -- an error reply is a refused packet's
 pub done_unreplied : (a : Answer) (out : List ℕ) → is_done a ≡ true → refused_reply a out ≡ out

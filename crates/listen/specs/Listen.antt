@@ -1,6 +1,6 @@
 -- The line's part of a call.
-use Rattle.std.specs.Prelude.{ℕ, ◌≡◌, Bool, List, [], ◌∷◌, length, take}
-use Rattle.lists.specs.Tests.{when◌then◌else◌, ◌≤?◌, ◌=?◌}
+use Rattle.std.specs.Prelude.{ℕ, ◌≡◌, Bool, Option, Some, None, unwrap_or, Result, List, [], ◌∷◌, length, take}
+use Rattle.lists.specs.Tests.{◌≤?◌, ◌=?◌}
 use Rattle.packets.specs.declared.Packet.{Packet}
 use Rattle.packets.specs.Packet.{reply_size, packet_of}
 use Rattle.packets.specs.Hold.{held}
@@ -12,7 +12,6 @@ use Rattle.panel.specs.declared.Line.{Line}
 use Rattle.panel.specs.State.{line_holding}
 use Rattle.answers.specs.declared.Check.{Check}
 use Rattle.answers.specs.declared.Check.TheVariants.{StateRange, PieceSize, PictureSize, FontSize, ListSize, ReplySize, RegisterSize}
-use Rattle.answers.specs.declared.Checked.{Checked}
 use Rattle.answers.specs.declared.Answer.{Answer}
 use Rattle.answers.specs.declared.Answer.TheVariants.{Waiting, CallRefused}
 use Rattle.answers.specs.Answer.{no_counts}
@@ -42,22 +41,23 @@ abbrev pub unheard : Line → Check → Heard
 unheard line check = record { line = line; answer = CallRefused check; packet = packet_of 0 []; counts = no_counts; reply = 0 }
 
 -- 1: "waiting, piece used up"; else by the packet found
-unfoldable pub answer_in : Bool → Packet → Answer
-answer_in found p = when found then answer_to p else Waiting
+unfoldable pub answer_in : Option Packet → Answer
+answer_in None = Waiting
+answer_in (Some p) = answer_to p
 
 -- what a scan found, heard: "held bytes only", and an error reply where the packet is refused
 abbrev pub heard_of : Line → Scanned → List ℕ → Heard
 heard_of line s reply =
     record {
       line = line_holding line s.hold;
-      answer = answer_in s.found s.packet;
-      packet = s.packet;
+      answer = answer_in s.packet;
+      packet = unwrap_or s.packet (packet_of 0 []);
       counts = s.counts;
-      reply = refused_length (answer_in s.found s.packet) reply;
+      reply = refused_length (answer_in s.packet) reply;
     }
 
 abbrev pub heard_reply : Scanned → List ℕ → List ℕ
-heard_reply s reply = refused_reply (answer_in s.found s.packet) reply
+heard_reply s reply = refused_reply (answer_in s.packet) reply
 
 -- the piece, scanned with the bytes that the line holds
 abbrev pub scanned_by : Line → List ℕ → Scanned
@@ -72,7 +72,7 @@ listened_reply in_range line piece sizes reply =
     decided (line_tests in_range (length piece) sizes (length reply)) (λ check. reply) (heard_reply (scanned_by line piece) reply)
 
 -- what `checked` promises
-abbrev pub ChecksLine : Bool → ℕ → Sizes → ℕ → Checked → Type 0
+abbrev pub ChecksLine : Bool → ℕ → Sizes → ℕ → Result (Unit {0}) Check → Type 0
 ChecksLine in_range piece sizes reply r = r ≡ checked_by (line_tests in_range piece sizes reply)
 
 -- what `hear` promises of its result and of the reply buffer

@@ -1,19 +1,18 @@
 -- What a packet is answered: "a packet whose type is not a command" is a stray; a command is done or refused.
-use Rattle.std.specs.Prelude.{ℕ, ◌+◌, ◌%◌, ◌≡◌, List, []}
+use Rattle.std.specs.Prelude.{ℕ, ◌+◌, ◌%◌, ◌≡◌, Result, Ok, Err, List, []}
 use Rattle.lists.specs.Tests.{when◌then◌else◌, ◌<?◌, ◌=?◌}
 use Rattle.packets.specs.declared.Packet.{Packet}
 use Rattle.packets.specs.Packet.{content_of, composed_length, composed}
-use Rattle.verdict.specs.declared.Verdict.{Verdict}
-use Rattle.verdict.specs.declared.Verdict.TheVariants as verdicts
+use Rattle.verdict.specs.declared.Objection.{Objection}
 use Rattle.verdict.specs.Verdict.{verdict_of}
 use Rattle.answers.specs.declared.Answer.{Answer}
 use Rattle.answers.specs.declared.Answer.TheVariants.{Stray, Done, Refused}
 use Rattle.answers.specs.Answer.{numbers_of}
 
 -- what a command is answered, by its verdict
-unfoldable pub ruling : Verdict → ℕ → Answer
-ruling verdicts.Allowed code = Done code
-ruling (verdicts.Refused reason place) code = Refused code reason place
+unfoldable pub ruling : Result (Unit {0}) Objection → ℕ → Answer
+ruling (Ok _) code = Done code
+ruling (Err o) code = Refused code o.reason o.place
 
 -- what a packet is answered, from the packet alone: "The top two type bits: 00 command"; the low six are the command
 unfoldable pub answer_to : Packet → Answer

@@ -5,13 +5,12 @@ ghost use Rattle.std.specs.Prelude.{◌≡◌};
 ghost use Rattle.listen.specs.Reply.{AnswersTo, RepliesRefused};
 ghost use Rattle.listen.specs.Listen.{answer_in, ChecksLine, HearsPiece};
 
-use answers::{Answer, Check, Checked, also};
+use answers::{Answer, Check, also};
 use filing::RECORDS;
 use framing::Counts;
 use packets::{CONTENT, Packet, REPLY};
 use panel::Line;
 use picture::repaint::{FONT, LIST, PICTURE};
-use verdict::Verdict;
 
 // The longest piece.
 pub const PIECE: usize = 4096;
@@ -25,6 +24,13 @@ pub struct Sizes {
     pub records: usize,
 }
 
+// What stands for the packet of a call that found none.
+const NO_PACKET: Packet = Packet {
+    kind: 0,
+    length: 0,
+    content: [0u8; CONTENT],
+};
+
 // The line's part after a call, its answer, the packet that it found, its counts and the error reply's length.
 #[derive(Clone, Copy)]
 pub struct Heard {
@@ -36,6 +42,7 @@ pub struct Heard {
 }
 
 // A stray, a done command or a refusal: the panel's state has no part in it.
+#[tactic(auto, using(lists::proofs::Laws::when_true, lists::proofs::Laws::when_false), unfolding(crate::specs::Reply::answer_to))]
 fn answer_to(p: Packet) -> Answer
     ensures { AnswersTo p result }
 {
@@ -43,15 +50,15 @@ fn answer_to(p: Packet) -> Answer
     if 64 <= code {
         return Answer::Stray(code % 64);
     }
-    let bytes = p.content;
-    let n = lists::at_most(p.length, CONTENT);
-    match verdict::verdict_on(code, &bytes[..n]) {
-        Verdict::Allowed => Answer::Done(code),
-        Verdict::Refused(reason, place) => Answer::Refused(code, reason, place),
+    let n = p.length.min(CONTENT);
+    match verdict::verdict_on(code, &p.content[..n]) {
+        Ok(()) => Answer::Done(code),
+        Err(o) => Answer::Refused(code, o.reason, o.place),
     }
 }
 
 // The error reply of a refused packet at the front of the buffer, and its length; to other answers nothing is replied here.
+#[tactic(auto, using(lists::proofs::Laws::when_true, lists::proofs::Laws::when_false), unfolding(crate::specs::Reply::refused_length, crate::specs::Reply::refused_reply, answers::specs::Answer::numbers_of))]
 fn refuse(answer: Answer, reply: &mut [u8]) -> usize
     ensures { RepliesRefused answer reply.old result reply.new }
 {
@@ -62,10 +69,10 @@ fn refuse(answer: Answer, reply: &mut [u8]) -> usize
 }
 
 // The checks of a line call, in the order of their numbers.
-pub fn checked(in_ranges: bool, piece: usize, sizes: Sizes, reply: usize) -> Checked
+pub fn checked(in_ranges: bool, piece: usize, sizes: Sizes, reply: usize) -> Result<(), Check>
     ensures { ChecksLine in_ranges piece sizes reply result }
 {
-    let state = also(Checked::Passes, in_ranges, Check::StateRange);
+    let state = also(Ok(()), in_ranges, Check::StateRange);
     let pieces = also(state, piece <= PIECE, Check::PieceSize);
     let picture = also(pieces, sizes.picture == PICTURE, Check::PictureSize);
     let font = also(picture, sizes.font == FONT, Check::FontSize);
@@ -74,11 +81,15 @@ pub fn checked(in_ranges: bool, piece: usize, sizes: Sizes, reply: usize) -> Che
     also(replies, sizes.records == RECORDS, Check::RegisterSize)
 }
 
-// What a scan found: waiting, or the packet's answer.
-fn answer_in(found: bool, p: Packet) -> Answer
-    ensures { result ≡ answer_in found p }
+// What a scan found: the packet's answer, or waiting.
+#[tactic(auto, unfolding(crate::specs::Listen::answer_in))]
+fn answer_in(packet: Option<Packet>) -> Answer
+    ensures { result ≡ answer_in packet }
 {
-    if found { answer_to(p) } else { Answer::Waiting }
+    match packet {
+        Some(p) => answer_to(p),
+        None => Answer::Waiting,
+    }
 }
 
 // A piece of the line once its checks have passed; a refused packet gets its error reply.
@@ -86,16 +97,16 @@ pub fn hear(line: Line, piece: &[u8], reply: &mut [u8]) -> Heard
     ensures { HearsPiece line piece.now reply.old result reply.new }
 {
     let s = framing::scan(line.hold, piece);
-    let hold = s.hold;
-    let packet = s.packet;
-    let counts = s.counts;
-    let answer = answer_in(s.found, packet);
+    let answer = answer_in(s.packet);
     let written = refuse(answer, reply);
     Heard {
-        line: Line { hold, ..line },
+        line: Line {
+            hold: s.hold,
+            ..line
+        },
         answer,
-        packet,
-        counts,
+        packet: s.packet.unwrap_or(NO_PACKET),
+        counts: s.counts,
         reply: written,
     }
 }

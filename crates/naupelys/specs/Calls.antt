@@ -1,8 +1,7 @@
 -- What power-on, key, pin and symbol cells over lent bytes promise of the number that they return and of each byte lent to them; what the
 -- line call promises is `LineBytes` of linebytes.
-use Rattle.std.specs.Prelude.{ℕ, ◌+◌, ◌≡◌, Bool, List}
+use Rattle.std.specs.Prelude.{ℕ, ◌≡◌, Bool, Option, Some, None, List}
 use Rattle.lists.specs.Tests.{when◌then◌else◌, ◌<?◌}
-use Rattle.packets.specs.Hold.{held_most}
 use Rattle.panel.specs.declared.Panel.{Panel}
 use Rattle.panel.specs.State.{powered_on}
 use Rattle.answers.specs.declared.Said.{Said}
@@ -10,7 +9,7 @@ use Rattle.power.specs.Power.{power_said, power_picture}
 use Rattle.events.specs.Keys.{key_said, key_reply}
 use Rattle.events.specs.Pins.{pin_said}
 use Rattle.symbols.specs.Symbols.{cells_said, cells_list}
-use Rattle.statebytes.specs.State.{bytes_of, panel_of, is_state, on_state, state_with}
+use Rattle.statebytes.specs.State.{bytes_of, is_state, on_state, state_with}
 use Rattle.saidbytes.specs.Says.{number_of, bytes_said, no_state}
 use Rattle.linebytes.specs.Line.{state_after}
 
@@ -21,13 +20,9 @@ pub record PowerOnBytes (s p font : List ℕ) (n : ℕ) (s' p' said' : List ℕ)
   pub picture : p' ≡ (when is_state s then power_picture p font else p)
   pub said : said' ≡ (when is_state s then bytes_said (power_said p font) else no_state)
 
--- a panel that holds more than it can, and so is out of its ranges
-abbrev pub overfull : Panel → Panel
-overfull p = record { line = record { hold = record { bytes = p.line.hold.bytes; count = held_most + 1 }; unfiled = p.line.unfiled }; body = p.body }
-
--- the panel that a call reads: for bytes that are no state one out of its ranges, which the first check of a call refuses
-unfoldable pub panel_in : List ℕ → Panel
-panel_in state = when is_state state then panel_of state else overfull powered_on
+-- the panel that a call reads, none where the bytes are no state
+unfoldable pub panel_in : List ℕ → Option Panel
+panel_in state = on_state state None Some
 
 -- a call on a state's bytes, by what it says on a panel; bytes that are no state are answered 10 and stay
 pub record OnBytes (said_on : Panel → Said) (s : List ℕ) (n : ℕ) (s' said' : List ℕ) : Type 0 where

@@ -2,41 +2,42 @@
 #![tactic(auto)]
 
 ghost use Rattle.std.specs.Prelude.{◌≡◌, length};
+ghost use Rattle.answers.specs.declared.Check.TheVariants.{StateRange};
+ghost use Rattle.saidbytes.specs.Says.{SaysRefused};
 ghost use Rattle.linecall.specs.Line.{lent};
 ghost use Rattle.linebytes.specs.Line.{records_in, LineBytes};
 ghost use Rattle.naupelys.specs.Calls.{panel_in, Told, EndsCall, PowerOnBytes, KeyBytes, PinBytes, CellsBytes};
 
 use answers::{Check, Said};
-use packets::HELD;
 use panel::Panel;
 use saidbytes::SAID;
 use statebytes::places::SIZE;
-
-// More bytes than a panel can hold.
-const OVERFULL: usize = HELD + 1;
 
 // The answer and the counts written as what the call says; the answer's number.
 fn told(said: &mut [u8; SAID], s: Said) -> u8
     ensures { Told s result said.new }
 {
-    let answer = s.answer;
-    saidbytes::write(said, answer, s.counts, s.reply, s.listed)
+    saidbytes::write(said, s.answer, s.counts, s.reply, s.listed)
 }
 
-// The panel that the bytes are. Bytes that are no state are read as a panel out of its ranges, so that a call refuses them by
-// its first check.
-fn panel_in(state: &[u8]) -> Panel
+// What a call says of bytes that are no state.
+fn no_state(said: &mut [u8; SAID]) -> u8
+    ensures { SaysRefused StateRange result said.new }
+{
+    saidbytes::refused(said, Check::StateRange)
+}
+
+// The panel that the bytes are, if they are a state.
+fn panel_in(state: &[u8]) -> Option<Panel>
     ensures { result ≡ panel_in state.now }
 {
     if state.len() != SIZE {
-        let mut p = panel::powered_on();
-        p.line.hold.count = OVERFULL;
-        return p;
+        return None;
     }
-    Panel {
+    Some(Panel {
         line: statebytes::line::read_line(state),
         body: statereads::read_body(state),
-    }
+    })
 }
 
 // The end of a call on a state: the state after it, unless the call was refused by number.
@@ -60,7 +61,7 @@ pub fn naupelys_power_on(
     ensures { PowerOnBytes state.old picture.old font.now result state.new picture.new said.new }
 {
     if state.len() != SIZE {
-        return saidbytes::refused(said, Check::StateRange);
+        return no_state(said);
     }
     let on = power::power_on(picture, font);
     statewrites::write(state, on.panel.line, on.panel.body);
@@ -68,6 +69,7 @@ pub fn naupelys_power_on(
 }
 
 // A piece of the line.
+// Kept: eight parameters, which are the C interface's naupelys_line.
 pub fn naupelys_line(
     state: &mut [u8],
     piece: &[u8],
@@ -93,22 +95,37 @@ pub fn naupelys_key(
 ) -> u8
     ensures { KeyBytes state.old key down reply.old result state.new reply.new said.new }
 {
-    let s = events::keys::key(panel_in(state), key, down, reply);
-    ended(state, s, said)
+    match panel_in(state) {
+        None => no_state(said),
+        Some(p) => {
+            let s = events::keys::key(p, key, down, reply);
+            ended(state, s, said)
+        }
+    }
 }
 
 // The level at a pin.
 pub fn naupelys_pin(state: &mut [u8], pin: u32, high: bool, said: &mut [u8; SAID]) -> u8
     ensures { PinBytes state.old pin high result state.new said.new }
 {
-    let s = events::pins::pin(panel_in(state), pin, high);
-    ended(state, s, said)
+    match panel_in(state) {
+        None => no_state(said),
+        Some(p) => {
+            let s = events::pins::pin(p, pin, high);
+            ended(state, s, said)
+        }
+    }
 }
 
 // The cells that a glyph is on. The state is only read.
 pub fn naupelys_symbol_cells(state: &[u8], glyph: u32, list: &mut [u8], said: &mut [u8; SAID]) -> u8
     ensures { CellsBytes state.now glyph list.old result list.new said.new }
 {
-    let s = symbols::cells(panel_in(state), glyph, list);
-    told(said, s)
+    match panel_in(state) {
+        None => no_state(said),
+        Some(p) => {
+            let s = symbols::cells(p, glyph, list);
+            told(said, s)
+        }
+    }
 }

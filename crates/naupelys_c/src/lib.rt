@@ -22,6 +22,7 @@ pub extern "C" fn naupelys_power_on(
 }
 
 // A piece of the line.
+// Kept: eight parameters, which are the C interface's naupelys_line.
 #[unsafe(no_mangle)]
 pub extern "C" fn naupelys_line(
     state: &mut [u8],

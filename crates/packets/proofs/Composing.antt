@@ -1,12 +1,13 @@
 -- Writing a packet into the front of a buffer, and its judgement.
 use mathlib.Core.Path.{◌≡◌, refl, sym, ◌∙◌, ap}
 use mathlib.Core.Bool.{true, false, and-false}
-use mathlib.Core.List.{List, [], ◌∷◌, ◌++◌, append_assoc}
-use Prim.Native.Nat.{ℕ, ◌+◌, ◌*◌, ◌/◌, ◌%◌, ◌<◌, ◌≤◌}
+use mathlib.Core.List.{List, [], ◌∷◌}
+use Prim.Native.Nat.{ℕ, ◌+◌, ◌*◌, ◌/◌, ◌%◌, ◌^◌, ◌<◌, ◌≤◌}
 use native.Mathlib.Omega.{arith}
 use borrow.Author.Tests.{eq-eqb, ne_eqb, le-leb, lt-leb}
-use lib.ListN.{length, take, drop, set, get_or, length-append}
+use lib.ListN.{length, take, drop, set, get_or}
 use lib.Seq.{take_at, get_or_at, get_or-append-add}
+use Rattle.std.specs.Int.{w16, to_le_bytes}
 use Rattle.lists.specs.Runs.{front, pasted}
 use Rattle.lists.proofs.Laws.{when_true, when_false, front_more, front_run}
 use Rattle.fcs.specs.Fcs.{checksum}
@@ -31,11 +32,11 @@ module _ (out content : List ℕ) where
     unfolding composed_length composed
     composes_nothing e = (sym (when_false _ _ _ e), sym (when_false _ _ _ e))
 
-    -- the two stores, the run, the checksum of what stands there so far, the two last stores: the packet at the front
-    written : (sum : ℕ) (out' : List ℕ) → length content + 4 ≤ length out
+    -- the two stores, the run, the checksum of what stands there so far, and its two bytes: the packet at the front
+    written : (sum : ℕ) (out' out'' : List ℕ) → length content + 4 ≤ length out
         → out' ≡ pasted (set (set out 0 kind) 1 (length content)) 2 content → sum ≡ checksum (take (length content + 2) out')
-        → set (set out' (length content + 2) (sum % 256)) (length content + 3) (sum / 256) ≡ front (packet_bytes kind content) out
-    written sum out' room e f =
+        → out'' ≡ pasted out' (length content + 2) (low_first sum) → out'' ≡ front (packet_bytes kind content) out
+    written sum out' out'' room e f p =
         let h = covered kind content in
         let n = length content in
         let a : set (set out 0 kind) 1 n ≡ front (kind ∷ n ∷ []) out =
@@ -43,20 +44,21 @@ module _ (out content : List ℕ) where
         let b : out' ≡ front h out = e ∙ rw a (front_run (kind ∷ n ∷ []) out content 2 refl (omega arith)) in
         let t : take (n + 2) out' ≡ h = rw b (take_at h (drop (length h) out) (n + 2) (omega arith)) in
         let g : sum ≡ checksum h = f ∙ ap checksum t in
-        let x = checksum h % 256 in
-        rw (b, g, front_more h out (n + 2) x (omega arith) (omega arith))
-        (front_more (h ++ x ∷ []) out (n + 3) (checksum h / 256) (omega (arith, length-append h (x ∷ []))) (omega arith)
-        ∙ ap (λ (p : List ℕ). front p out) (append_assoc h (x ∷ []) (checksum h / 256 ∷ [])))
+        p ∙ rw (b, g) (front_run h out (low_first (checksum h)) (n + 2) (omega arith) (omega arith))
 
     composes : (out' : List ℕ) → length out ≡ 26 → length content ≤ 22 → out' ≡ front (packet_bytes kind content) out
         → Composes out kind content (length content + 4) out'
     unfolding composed_length composed
     composes out' h l e = let t = fitting h l in (sym (when_true _ _ _ t), e ∙ sym (when_true _ _ _ t))
 
-    pub composes_all : (sum : ℕ) (out' : List ℕ) → length out ≡ 26 → length content ≤ 22
+    pub composes_all : (sum : ℕ) (out' out'' ends : List ℕ) → length out ≡ 26 → length content ≤ 22
         → out' ≡ pasted (set (set out 0 kind) 1 (length content)) 2 content → sum ≡ checksum (take (length content + 2) out')
-        → Composes out kind content (length content + 4) (set (set out' (length content + 2) (sum % 256)) (length content + 3) (sum / 256))
-    composes_all sum out' h l e f = composes _ h l (written sum out' (omega arith) e f)
+        → out'' ≡ pasted out' (length content + 2) ends → ends ≡ low_first sum → Composes out kind content (length content + 4) out''
+    composes_all sum out' out'' ends h l e f p q = composes out'' h l (written sum out' out'' (omega arith) e f (rw q at p))
+
+-- a number of sixteen bits as the library writes it
+pub low_bytes : (sum : ℕ) → sum < 2 ^ 16 → to_le_bytes w16 sum ≡ low_first sum
+low_bytes sum h = let e : sum / 256 % 256 ≡ sum / 256 = omega arith in rw e
 
 -- the bytes of a packet are judged a packet
 module _ (kind : ℕ) (content : List ℕ) (l : length content ≤ 22) where

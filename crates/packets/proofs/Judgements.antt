@@ -1,5 +1,5 @@
 -- The judgement, sentence by sentence.
-use mathlib.Core.Path.{◌≡◌, refl, sym, ◌∙◌}
+use mathlib.Core.Path.{◌≡◌, refl, ◌∙◌}
 use mathlib.Core.Logic.{dite}
 use mathlib.Core.Bool.{Bool, true, false}
 use mathlib.Core.List.{List, ◌++◌}
@@ -46,26 +46,11 @@ module _ (h : List ℕ) where
       go true e a b = at (whole a b e)
       go false e a b = at (wrong a b e)
 
--- the judgement by a number that is the length byte
-module _ (h : List ℕ) (n : ℕ) (e : n ≡ length_byte h) where
-  pub judged_long : 2 ≤ length h → 22 < n → LongLength ≡ judge h
-  judged_long a b = sym (shown h (long a (rw e at b)))
-
-  pub judged_part : 2 ≤ length h → n ≤ 22 → length h < n + 4 → Wait ≡ judge h
-  judged_part a b c = sym (shown h (part a (rw e at b) (rw e at c)))
-
-  module _ (t : Bool) (f : t ≡ checksum_right h) (b : n ≤ 22) (c : n + 4 ≤ length h) where
-    pub judged_whole : t ≡ true → Packet ≡ judge h
-    judged_whole g = sym (shown h (whole (rw e at b) (rw e at c) (sym f ∙ g)))
-
-    pub judged_wrong : t ≡ false → WrongChecksum ≡ judge h
-    judged_wrong g = sym (shown h (wrong (rw e at b) (rw e at c) (sym f ∙ g)))
-
-  -- the checksum compared, by that number
-  pub right_by : (sum low high : ℕ) → sum ≡ checksum (take (n + 2) h) → low ≡ get_or h (n + 2) 0 → high ≡ get_or h (n + 3) 0 → eqb sum (low + 256 * high) ≡ checksum_right h
-  unfolding checksum_right
-  right_by sum low high s l k =
-      (λ i. eqb (s i) (l i + 256 * k i)) ∙ (λ i. eqb (checksum (take (e i + 2) h)) (get_or h (e i + 2) 0 + 256 * get_or h (e i + 3) 0))
+-- the checksum compared, by a number that is the length byte
+pub right_by : (h : List ℕ) (n : ℕ) → n ≡ length_byte h → (sum ends : ℕ) → sum ≡ checksum (take (n + 2) h) → ends ≡ get_or h (n + 2) 0 + 256 * get_or h (n + 3) 0
+    → eqb sum ends ≡ checksum_right h
+unfolding checksum_right
+right_by h n e sum ends s l = rw (s, l, e)
 
 -- bytes behind change nothing of a judgement that is no wait
 module _ (h s : List ℕ) where

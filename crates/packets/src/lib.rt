@@ -10,6 +10,7 @@ ghost use Rattle.packets.specs.Packet.{content_most, Composes};
 pub const HELD: usize = 25;
 
 // Oldest first. The bytes behind the count are no part of what is held.
+// Kept: there is no heap; the state's bytes have all 25 and the count, and a count above 25 is what `in_ranges` refuses.
 #[derive(Clone, Copy)]
 pub struct Hold {
     pub bytes: [u8; HELD],
@@ -46,13 +47,10 @@ fn checksum_right(held: &[u8], n: usize) -> bool
     requires { (n ≡ length_byte held.now) × (n ≤ content_most) × (n + 4 ≤ length held.now) }
     ensures { result ≡ checksum_right held.now }
 {
-    let end = n + 2;
-    let sum = fcs::checksum(&held[..end]) as usize;
-    let low = lists::wide(held[n + 2]);
-    let high = lists::wide(held[n + 3]);
-    sum == low + 256 * high
+    fcs::checksum(&held[..n + 2]) == u16::from_le_bytes([held[n + 2], held[n + 3]])
 }
 
+#[tactic(auto, using(lists::proofs::Laws::when_true, lists::proofs::Laws::when_false), unfolding(crate::specs::Judge::judge))]
 pub fn judge(held: &[u8]) -> Judgement
     ensures { Judges held.now result }
 {
@@ -73,6 +71,7 @@ pub fn judge(held: &[u8]) -> Judgement
 }
 
 // Type, length and data; zeros behind the data.
+// Kept: a packet is handed on by value, and there is no heap: it has room for the most data bytes, with how many there are.
 #[derive(Clone, Copy)]
 pub struct Packet {
     pub kind: u8,
@@ -82,21 +81,18 @@ pub struct Packet {
 
 // The packet of a type and data bytes at the front of a lent buffer of 26, and its length. A buffer of another size, or
 // more than 22 data bytes: nothing is written, and the length is 0.
+// Kept: a length of 0 says that nothing is written, as a call does that replies nothing: `Composes` says it, and the C calls pass it on.
 pub fn compose(out: &mut [u8], kind: u8, content: &[u8]) -> usize
     ensures { Composes out.old kind content.now result out.new }
 {
-    if out.len() != REPLY {
-        return 0;
-    }
     let size = content.len();
-    if CONTENT < size {
+    if out.len() != REPLY || CONTENT < size {
         return 0;
     }
     out[0] = kind;
     out[1] = size as u8;
     lists::paste(out, 2, content);
     let sum = fcs::checksum(&out[..size + 2]);
-    out[size + 2] = (sum % 256) as u8;
-    out[size + 3] = (sum / 256) as u8;
+    lists::paste(out, size + 2, &sum.to_le_bytes());
     size + 4
 }

@@ -102,33 +102,29 @@ pub struct Panel {
 }
 
 // The factory boot state.
+#[tactic(auto, unfolding(crate::specs::State::factory_settings))]
 fn factory() -> Settings
     ensures { result ≡ factory_settings }
 {
-    let shown = Shown {
-        text: [32u8; CODES],
-        glyphs: [0u8; GLYPH_ROWS],
-    };
-    let cursor = Cursor { column: 0, row: 0 };
-    let dials = Dials {
-        style: 0,
-        contrast: 95,
-        backlight: 100,
-    };
-    let masks = Masks {
-        press: 63,
-        release: 63,
-    };
-    let wires = Wires {
-        levels: [0u8; PINS],
-        configs: [2, 3, 2, 2, 2],
-    };
     Settings {
-        shown,
-        cursor,
-        dials,
-        masks,
-        wires,
+        shown: Shown {
+            text: [32u8; CODES],
+            glyphs: [0u8; GLYPH_ROWS],
+        },
+        cursor: Cursor { column: 0, row: 0 },
+        dials: Dials {
+            style: 0,
+            contrast: 95,
+            backlight: 100,
+        },
+        masks: Masks {
+            press: 63,
+            release: 63,
+        },
+        wires: Wires {
+            levels: [0u8; PINS],
+            configs: [2, 3, 2, 2, 2],
+        },
     }
 }
 
@@ -137,25 +133,26 @@ pub fn powered_on() -> Panel
     ensures { Starts result }
 {
     let live = factory();
-    let keys = Keys {
-        down: 0,
-        pressed: 0,
-        released: 0,
-    };
-    let pins = Pins {
-        last: 0,
-        fell: 0,
-        rose: 0,
-    };
-    let body = Body {
-        live,
-        boot: live,
-        keys,
-        pins,
-        flash: [0u8; FLASH_BYTES],
-        sets: [0u8; CODES],
-    };
-    let hold = packets::empty();
-    let line = Line { hold, unfiled: 0 };
-    Panel { line, body }
+    Panel {
+        line: Line {
+            hold: packets::empty(),
+            unfiled: 0,
+        },
+        body: Body {
+            live,
+            boot: live,
+            keys: Keys {
+                down: 0,
+                pressed: 0,
+                released: 0,
+            },
+            pins: Pins {
+                last: 0,
+                fell: 0,
+                rose: 0,
+            },
+            flash: [0u8; FLASH_BYTES],
+            sets: [0u8; CODES],
+        },
+    }
 }

@@ -18,12 +18,12 @@ pub struct Performed {
 fn reply_with(packet: Packet, reply: &mut [u8]) -> usize
     ensures { Replies packet reply.old result reply.new }
 {
-    let content = packet.content;
-    let n = lists::at_most(packet.length, CONTENT);
-    packets::compose(reply, packet.kind, &content[..n])
+    let n = packet.length.min(CONTENT);
+    packets::compose(reply, packet.kind, &packet.content[..n])
 }
 
 // Carries a packet's command out; the reply is made from the body before it. Whether it is allowed is for the verdict to say.
+// Kept: six parameters, since `Performs` and `perform_determined` speak of each lent buffer.
 pub fn perform(
     body: Body,
     packet: Packet,
@@ -35,12 +35,15 @@ pub fn perform(
     ensures { Performs body packet picture.old font.now list.old reply.old result picture.new list.new reply.new }
 {
     let after = effects::effect_of(body, packet);
-    let answer = replies::reply_to(body, packet);
-    let written = reply_with(answer, reply);
-    let was = body.live.shown;
-    let is = after.live.shown;
-    let sets = after.sets;
-    let listed = picture::repaint::repaint(picture, list, was, is, sets, font);
+    let written = reply_with(replies::reply_to(body, packet), reply);
+    let listed = picture::repaint::repaint(
+        picture,
+        list,
+        body.live.shown,
+        after.live.shown,
+        after.sets,
+        font,
+    );
     Performed {
         body: after,
         reply: written,

@@ -1,13 +1,15 @@
 -- The cells that draw otherwise, and the picture repainted.
-use Prim.Native.Nat.{ℕ, zero, suc, ◌+◌, ◌<◌, ◌≤◌}
+use Prim.Native.Nat.{ℕ, zero, suc, ◌<◌, ◌≤◌}
 use mathlib.Core.Path.{◌≡◌, refl, sym, ◌∙◌, ap}
 use mathlib.Core.Logic.{◌≢◌, ◌↔◌, dite}
 use mathlib.Core.Bool.{Bool, true, false, not, ◌&&◌, false≢true}
 use mathlib.Core.List.{List, []}
-use native.Mathlib.Numerals.{add-one}
 use native.Mathlib.Omega.{arith}
 use native.Mathlib.Decide.{dec_lt, ℕ_discrete}
 use borrow.Author.Tests.{eqb-true, eq-eqb, not-true}
+use Rattle.std.specs.Str.{bytes_eq}
+use Rattle.std.proofs.lemmas.Bool.Decides.{same_from_decides}
+use Rattle.std.proofs.lemmas.Slice.Eq.{bytes_eq-Decides}
 use lib.Dec.{eqb}
 use lib.ListN.{length, get_or}
 use lib.Seq.{ext_get_or}
@@ -34,13 +36,13 @@ pub alike_self : (n : ℕ) (a : List ℕ) → alike n a a ≡ true
 alike_self zero a = refl
 alike_self (suc n) a = rw (alike_self n a, eq-eqb (get_or a n 0) (get_or a n 0) refl)
 
--- one byte more compared, at the code's i + 1
-pub alike_turn : (a b : List ℕ) (i : ℕ) (ok : Bool) → ok ≡ alike i a b → ok && eqb (get_or a i 0) (get_or b i 0) ≡ alike (i + 1) a b
-alike_turn a b i ok e = rw (add-one, e)
-
 -- lists of n that are alike up to n are the same
 pub alike_whole : (n : ℕ) (a b : List ℕ) → length a ≡ n → length b ≡ n → alike n a b ≡ true → a ≡ b
 alike_whole n a b h k e = ext_get_or 0 a b (h ∙ sym k) (λ i l. alike_at n a b e i (omega arith))
+
+-- what `==` says of eight bytes
+pub alike_eight : (a b : List ℕ) → length a ≡ 8 → length b ≡ 8 → bytes_eq a b ≡ alike 8 a b
+alike_eight a b h k = same_from_decides (bytes_eq a b) (alike 8 a b) (bytes_eq-Decides a b) (alike_whole 8 a b h k, λ e. rw e (alike_self 8 b))
 
 module _ (before after : Screen) (font : List ℕ) where
   pub painted_at : (p : List ℕ) (c k : ℕ) → length p ≡ 640 → c < 80 → k < 8

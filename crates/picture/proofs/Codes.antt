@@ -1,23 +1,22 @@
 -- What a code draws, source by source, and when two drawings are alike.
-use Prim.Native.Nat.{ℕ, zero, suc, ◌+◌, ◌-◌, ◌*◌, ◌%◌, ◌<◌, ◌≤◌}
-use mathlib.Core.Path.{◌≡◌, refl, ◌∙◌}
-use mathlib.Core.Logic.{dite}
+use Prim.Native.Nat.{ℕ, zero, suc, ◌-◌, ◌*◌, ◌/◌, ◌%◌}
+use mathlib.Core.Path.{◌≡◌, refl, subst}
 use mathlib.Core.Bool.{Bool, true, false, not, ◌&&◌, ◌||◌}
 use mathlib.Core.List.{List, [], ◌∷◌}
 use native.Mathlib.Numerals.{add-one}
 use native.Mathlib.Omega.{arith}
-use native.Mathlib.Decide.{ℕ_discrete}
 use borrow.Author.Tests.{eqb-true, not-true}
-use lib.ListN.{length, get_or, set, replicate, length-set}
-use lib.Seq.{get_or-set_same, get_or-set_other}
+use lib.ListN.{length, get_or}
 use Rattle.lists.specs.Tests.{◌=?◌}
 use Rattle.lists.proofs.Laws.{when_true, when_false}
-use Rattle.glyphs.specs.Glyphs.{eight_from}
+use Rattle.std.specs.Simd.{first_chunks}
+use Rattle.glyphs.specs.Glyphs.{eight_from, nested_of}
+use Rattle.glyphs.proofs.Flat.{all_elements}
 use Rattle.glyphs.specs.Source.{Source, special, font, is_special, source_of}
 use Rattle.sets.specs.Sets.{mark_for, mark_of, searched}
 use Rattle.sets.proofs.Laws.{mark_small}
 use Rattle.picture.specs.Draw.{drawn_from, low_six, code_drawn}
-use Rattle.picture.specs.Repaint.{alike, glyph_stays, Marks, LooksBy}
+use Rattle.picture.specs.Repaint.{alike, glyph_stays, Marks}
 use Rattle.picture.proofs.Changes.{both, alike_self}
 
 module _ (glyphs : List (List ℕ)) (bytes : List ℕ) (code : ℕ) where
@@ -60,34 +59,9 @@ searched_marks [] cell = omega arith
 searched_marks (code ∷ text) zero = mark_small code
 searched_marks (code ∷ text) (suc cell) = searched_marks text cell
 
--- how far a loop has come that finds the cells to look at: of the first n it is known
-abbrev pub Looking : (ℕ → Bool) → ℕ → List Bool → Type 0
-Looking test n look = (n ≤ 80) × (length look ≡ 80) × ((cell : ℕ) → cell < n → get_or look cell false ≡ test cell)
-
-module _ (test : ℕ → Bool) (look : List Bool) where
-  pub look_first : length look ≡ 80 → Looking test 0 look
-  look_first e = (omega arith, e, λ cell h. absurd (omega arith))
-
-  pub look_turn : (n : ℕ) → n < 80 → Looking test n look → Looking test (n + 1) (set look n (test n))
-  look_turn n h w = (
-    omega arith,
-    length-set look n (test n) ∙ w.1,
-    λ cell l.
-        dite (ℕ_discrete cell n) (λ e. rw e (get_or-set_same look n (test n) false (omega (arith, w.1)))) (λ e. get_or-set_other look n cell (test n) false e ∙ w.2 cell (omega arith)),
-  )
-
-  pub look_all : (n : ℕ) → 80 ≤ n → Looking test n look → LooksBy test look
-  look_all n h w = λ cell l. w.2 cell (omega arith)
-
--- the low six bits of the first n of eight rows, zeros behind
-unfoldable pub low_first : ℕ → List ℕ → List ℕ
-low_first zero rows = replicate 8 0
-low_first (suc k) rows = set (low_first k rows) k (get_or rows k 0 % 64)
-
-pub low_turn : (rows : List ℕ) (k : ℕ) (low : List ℕ) → low ≡ low_first k rows → set low k (get_or rows k 0 % 64) ≡ low_first (k + 1) rows
-unfolding low_first
-low_turn rows k low e = rw (add-one, e)
-
-pub low_all : (rows : List ℕ) (k : ℕ) (low : List ℕ) → k ≡ 8 → low ≡ low_first k rows → low ≡ low_six rows
-unfolding low_first
-low_all rows k low e h = rw e at h
+-- the special glyphs as the code reads them: the flat ones in chunks of eight
+pub chunks_nested : (flat : List ℕ) → length flat ≡ 64 → first_chunks 8 (length flat / 8) flat ≡ nested_of flat
+unfolding nested_of
+chunks_nested flat h =
+    let d : length flat / 8 ≡ 8 = omega arith in
+    rw d (subst (λ (f : List ℕ). first_chunks 8 8 f ≡ nested_of f) (all_elements 0 flat 0 64 h) refl)

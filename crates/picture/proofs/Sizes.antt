@@ -1,45 +1,36 @@
--- A repaint and a drawing by the sizes of what is lent.
+-- A repaint by the sizes of what is lent.
 use Prim.Native.Nat.{ℕ}
-use mathlib.Core.Path.{◌≡◌, refl, ◌∙◌, sym}
-use mathlib.Core.Bool.{Bool, true, false, not, ◌&&◌, ◌||◌, true≢false}
+use mathlib.Core.Path.{◌≡◌, refl, sym}
+use mathlib.Core.Bool.{Bool, true, false, ◌&&◌}
 use mathlib.Core.List.{List}
-use borrow.Author.Tests.{eq-eqb, ne_eqb, eqb-true}
+use borrow.Author.Tests.{eq-eqb, ne_eqb}
 use lib.Dec.{eqb}
 use lib.ListN.{length}
 use Rattle.lists.specs.Promise.{Determined}
 use Rattle.lists.specs.Tests.{when◌then◌else◌}
-use Rattle.lists.proofs.Laws.{when_true, when_false}
 use Rattle.lists.proofs.Theorems.{one, and}
-use Rattle.picture.specs.Draw.{Screen, screen, drawn}
-use Rattle.picture.specs.Repaint.{Repaints, RepaintsSized, DrawsAll}
+use Rattle.picture.specs.Draw.{Screen}
+use Rattle.picture.specs.Repaint.{Repaints, RepaintsSized}
+use Rattle.picture.proofs.Changes.{changed_same, painted_same}
 
-when_true_is : (A B : Type 0) → A → when true then A else B
+-- the same screen again: nothing is done, whatever the sizes
+pub screen_again : (before after : Screen) (font picture list : List ℕ) → before ≡ after → RepaintsSized before after font picture list 0 picture list
 unfolding when◌then◌else◌
-when_true_is A B x = x
-
-when_false_is : (A B : Type 0) → B → when false then A else B
-unfolding when◌then◌else◌
-when_false_is A B x = x
-
--- both sizes are right where neither test found one wrong
-pub both_sized : (n m : ℕ) (t : Bool) → (not (eqb n 640) || not (eqb m 80)) || t ≡ false → (n ≡ 640) × (m ≡ 80)
-both_sized n m t h = let g = go (eqb n 640) (eqb m 80) h in (eqb-true n 640 g.0, eqb-true m 80 g.1)
+screen_again before after font picture list e = rw (← e) (go (eqb (length picture) 640 && eqb (length list) 80))
   where
-    go : (a b : Bool) → (not a || not b) || t ≡ false → (a ≡ true) × (b ≡ true)
-    go true true h = (refl, refl)
-    go true false h = absurd (true≢false h)
-    go false b h = absurd (true≢false h)
+    go : (t : Bool) → when t then Repaints before before font picture list 0 picture list else ((◌≡◌ {A = ℕ} 0 0) × (picture ≡ picture) × (list ≡ list))
+    go true = rw (changed_same before font) (refl, sym (painted_same before font picture), refl)
+    go false = (refl, refl, refl)
 
 module _ (before after : Screen) (font picture list : List ℕ) where
-  -- nothing is done where a size is wrong, or where nothing is to be done
-  pub repaint_left : (t : Bool) → (not (eqb (length picture) 640) || not (eqb (length list) 80)) || t ≡ true → (t ≡ true → Repaints before after font picture list 0 picture list)
-      → RepaintsSized before after font picture list 0 picture list
-  repaint_left t h f = go (eqb (length picture) 640) (eqb (length list) 80) h
-    where
-      go : (a b : Bool) → (not a || not b) || t ≡ true → when a && b then Repaints before after font picture list 0 picture list else ((◌≡◌ {A = ℕ} 0 0) × (picture ≡ picture) × (list ≡ list))
-      go true true h = when_true_is _ _ (f h)
-      go true false h = when_false_is _ _ (refl, refl, refl)
-      go false b h = when_false_is _ _ (refl, refl, refl)
+  -- nothing is done where a size is wrong
+  pub picture_left : (length picture ≡ 640 → ⊥) → RepaintsSized before after font picture list 0 picture list
+  unfolding when◌then◌else◌
+  picture_left h = rw (ne_eqb (length picture) 640 h) (refl, refl, refl)
+
+  pub list_left : length picture ≡ 640 → (length list ≡ 80 → ⊥) → RepaintsSized before after font picture list 0 picture list
+  unfolding when◌then◌else◌
+  list_left g h = rw (eq-eqb (length picture) 640 g, ne_eqb (length list) 80 h) (refl, refl, refl)
 
   module _ (r : ℕ) (picture' list' : List ℕ) (h : length picture ≡ 640) (g : length list ≡ 80) where
     pub sized_repaints : Repaints before after font picture list r picture' list' → RepaintsSized before after font picture list r picture' list'
@@ -56,18 +47,3 @@ module _ (before after : Screen) (font picture list : List ℕ) where
   unfolding when◌then◌else◌
   sized_or_left true x y m n = and (one _) (and (one _) (one _)) x y (m.0, (m.1, m.2)) (n.0, (n.1, n.2))
   sized_or_left false x y m n = and (one _) (and (one _) (one _)) x y (m.0, (m.1, m.2)) (n.0, (n.1, n.2))
-
--- a repaint with the glyphs that are meant
-pub glyphs_meant : (old new : List ℕ) (before before' after after' : List (List ℕ)) (font picture list : List ℕ) (r : ℕ) (picture' list' : List ℕ) → before ≡ before' → after ≡ after'
-    → RepaintsSized (screen old before) (screen new after) font picture list r picture' list' → RepaintsSized (screen old before') (screen new after') font picture list r picture' list'
-glyphs_meant old new before before' after after' font picture list r picture' list' e f h = rw (e, f) at h
-
-module _ (s : Screen) (font picture : List ℕ) where
-  pub draws_left : (length picture ≡ 640 → ⊥) → DrawsAll s font picture picture
-  draws_left h = sym (when_false _ _ _ (ne_eqb _ _ h))
-
-  pub draws_sized : (picture' : List ℕ) → length picture ≡ 640 → picture' ≡ drawn s font → DrawsAll s font picture picture'
-  draws_sized picture' h e = e ∙ sym (when_true _ _ _ (eq-eqb _ _ h))
-
-  pub sized_draws : (picture' : List ℕ) → length picture ≡ 640 → DrawsAll s font picture picture' → picture' ≡ drawn s font
-  sized_draws picture' h e = e ∙ when_true _ _ _ (eq-eqb _ _ h)

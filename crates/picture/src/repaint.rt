@@ -1,12 +1,15 @@
 // The repaint, from the codes and glyphs before and after, and the picture drawn afresh.
-ghost use Rattle.std.specs.Prelude.{◌≡◌, true, false, ◌&&◌, ◌<◌, ◌≤◌, length};
-ghost use Rattle.sets.specs.Sets.{is_search, searched};
-ghost use Rattle.picture.specs.Draw.{cell_drawn, drawn, screen, screen_of};
-ghost use Rattle.picture.specs.Repaint.{alike, glyph_stays, code_stays, Marks, LooksBy, looks_by_sets, looks_by_codes, DrawsAlike, LooksAt, RepaintsCell, RepaintsSized, DrawsAll};
+ghost use Rattle.std.specs.Prelude.{◌≡◌, ◌&&◌, ◌<◌, ◌≤◌};
+ghost use Rattle.std.specs.Str.{bytes_eq};
+ghost use Rattle.glyphs.specs.Glyphs.{nested_of};
+ghost use Rattle.sets.specs.Sets.{is_search};
+ghost use Rattle.picture.specs.Draw.{cell_drawn, drawn, screen_of};
+ghost use Rattle.picture.specs.Repaint.{glyph_stays, code_stays, Marks, LooksBy, looks_by_sets, looks_by_codes, LooksAt, RepaintsCell, Repaints, RepaintsSized, DrawsAll};
 
-use crate::draw::{draw, put_cell};
+use crate::draw::{draw, glyph, put_cell};
 use glyphs::is_special;
 use panel::Shown;
+use std::array;
 
 // How many cells there are, the bytes of a picture and of a font, and the size of a change list.
 const CELLS: usize = sets::CELLS;
@@ -17,20 +20,6 @@ pub const FONT: usize = 2048;
 
 pub const LIST: usize = CELLS;
 
-// Whether the first n bytes are the same.
-fn alike_first(a: &[u8], b: &[u8], n: usize) -> bool
-    requires { (n ≤ length a.now) × (n ≤ length b.now) }
-    ensures { result ≡ alike n a.now b.now }
-{
-    let mut ok = true;
-    let mut i: usize = 0;
-    while i < n {
-        ok = ok & (a[i] == b[i]);
-        i += 1;
-    }
-    ok
-}
-
 // A code that stays draws as it did where the glyphs are the same, or where it is not special.
 fn stays(a: u8, b: u8, same: bool) -> bool
     ensures { result ≡ code_stays a b same }
@@ -39,137 +28,90 @@ fn stays(a: u8, b: u8, same: bool) -> bool
 }
 
 // Whether the glyph is as before in whose set a cell is, by the cell's byte; a cell in no set has none that could change.
-fn glyph_stays(mark: u8, before: [[u8; 8]; 8], after: [[u8; 8]; 8]) -> bool
+fn glyph_stays(mark: u8, before: &Shown, after: &Shown) -> bool
     requires { mark ≤ 8 }
-    ensures { result ≡ glyph_stays mark before after }
+    ensures { result ≡ glyph_stays mark (nested_of before.now.glyphs) (nested_of after.now.glyphs) }
 {
     if mark == 0 {
         return true;
     }
-    let glyph = mark as usize - 1;
-    let was = before[glyph];
-    let is = after[glyph];
-    alike_first(&was, &is, 8)
+    let number = usize::from(mark) - 1;
+    glyph(before, number) == glyph(after, number)
 }
 
 // Whether the sets can be asked: the codes are as before, and the sets are theirs.
-fn sets_serve(kept: bool, text: &[u8], sets: &[u8]) -> bool
-    ensures { result ≡ kept && is_search text.now sets.now }
+fn sets_serve(before: &Shown, after: &Shown, sets: &[u8; CELLS]) -> bool
+    ensures { result ≡ bytes_eq before.now.text after.now.text && is_search after.now.text sets.now }
 {
-    if kept {
-        return sets::right(text, sets);
-    }
-    false
+    before.text == after.text && sets::right(&after.text, sets)
 }
 
 // The cells in the sets of the glyphs that changed.
-fn looked_by_sets(sets: &[u8], before: [[u8; 8]; 8], after: [[u8; 8]; 8]) -> [bool; CELLS]
-    requires { (length sets.now ≡ 80) × Marks sets.now }
-    ensures { LooksBy (looks_by_sets sets.now before after) result }
+fn looked_by_sets(sets: &[u8; CELLS], before: &Shown, after: &Shown) -> [bool; CELLS]
+    requires { Marks sets.now }
+    ensures { LooksBy (looks_by_sets sets.now (nested_of before.now.glyphs) (nested_of after.now.glyphs)) result }
 {
-    let mut look = [false; CELLS];
-    let mut cell: usize = 0;
-    while cell < CELLS {
-        look[cell] = !glyph_stays(sets[cell], before, after);
-        cell += 1;
-    }
-    look
+    array::from_fn(|cell| !glyph_stays(sets[cell], before, after))
 }
 
 // The cells whose codes do not say that they draw as they did.
-fn looked_by_codes(old: &[u8], new: &[u8], same: bool) -> [bool; CELLS]
-    requires { (length old.now ≡ 80) × (length new.now ≡ 80) }
-    ensures { LooksBy (looks_by_codes old.now new.now same) result }
+fn looked_by_codes(before: &Shown, after: &Shown) -> [bool; CELLS]
+    ensures { LooksBy (looks_by_codes before.now.text after.now.text (bytes_eq before.now.glyphs after.now.glyphs)) result }
 {
-    let mut look = [false; CELLS];
-    let mut cell: usize = 0;
-    while cell < CELLS {
-        look[cell] = !stays(old[cell], new[cell], same);
-        cell += 1;
-    }
-    look
+    let same = before.glyphs == after.glyphs;
+    array::from_fn(|cell| !stays(before.text[cell], after.text[cell], same))
 }
 
 // The cells to look at; all others draw as they did. Where the sets are asked, those in the sets of the glyphs that changed are, and no
 // others.
-fn looked(
-    old: &[u8],
-    new: &[u8],
-    sets: &[u8],
-    before: [[u8; 8]; 8],
-    after: [[u8; 8]; 8],
-    same: bool,
-    by_sets: bool,
-) -> [bool; CELLS]
-    requires { (length old.now ≡ 80) × (length new.now ≡ 80) × (same ≡ true → before ≡ after) × (by_sets ≡ true → (old.now ≡ new.now) × (sets.now ≡ searched new.now)) }
-    ensures { LooksAt (screen old.now before) (screen new.now after) sets.now by_sets result }
+fn looked(before: &Shown, after: &Shown, sets: &[u8; CELLS]) -> [bool; CELLS]
+    ensures { LooksAt (screen_of before.now) (screen_of after.now) sets.now (bytes_eq before.now.text after.now.text && is_search after.now.text sets.now) result }
 {
-    if by_sets {
-        return looked_by_sets(sets, before, after);
+    if sets_serve(before, after, sets) {
+        looked_by_sets(sets, before, after)
+    } else {
+        looked_by_codes(before, after)
     }
-    looked_by_codes(old, new, same)
 }
 
-// A cell that draws otherwise is written; says whether it draws as it did, as one does that need not be looked at.
+// A cell that draws otherwise is written; says whether it draws as it did.
 fn repaint_cell(
-    picture: &mut [u8],
+    picture: &mut [u8; PICTURE],
     cell: usize,
-    look: bool,
-    old: &[u8],
-    new: &[u8],
-    before: [[u8; 8]; 8],
-    after: [[u8; 8]; 8],
+    before: &Shown,
+    after: &Shown,
     font: &[u8],
 ) -> bool
-    requires { (length picture.old ≡ 640) × (cell < 80) × (length old.now ≡ 80) × (length new.now ≡ 80) × (look ≡ false → DrawsAlike (screen old.now before) (screen new.now after) cell) }
-    ensures { RepaintsCell cell (cell_drawn (screen old.now before) font.now cell) (cell_drawn (screen new.now after) font.now cell) picture.old result picture.new }
+    requires { cell < 80 }
+    ensures { RepaintsCell cell (cell_drawn (screen_of before.now) font.now cell) (cell_drawn (screen_of after.now) font.now cell) picture.old result picture.new }
 {
-    if look {
-        let a = old[cell];
-        let b = new[cell];
-        let was = draw(before, font, a);
-        let bytes = draw(after, font, b);
-        if alike_first(&was, &bytes, 8) {
-            return true;
-        }
-        put_cell(picture, cell, bytes);
-        return false;
+    let was = draw(before, font, cell);
+    let bytes = draw(after, font, cell);
+    if was == bytes {
+        return true;
     }
-    true
+    put_cell(picture, cell, bytes);
+    false
 }
 
-// Each cell that draws otherwise is written and listed. Nothing is where the picture or the list is not of its size, or where
-// codes and glyphs are as before: `kept` and `same` say so.
+// Each cell that draws otherwise is written and listed.
+// Kept: the place of the next cell is the count that the call gives back.
 fn repaint_cells(
-    picture: &mut [u8],
-    list: &mut [u8],
-    old: &[u8],
-    new: &[u8],
-    sets: &[u8],
-    before: [[u8; 8]; 8],
-    after: [[u8; 8]; 8],
-    same: bool,
-    kept: bool,
+    picture: &mut [u8; PICTURE],
+    list: &mut [u8; LIST],
+    before: Shown,
+    after: Shown,
+    sets: [u8; CELLS],
     font: &[u8],
 ) -> usize
-    requires { (length old.now ≡ 80) × (length new.now ≡ 80) × (same ≡ true → before ≡ after) × (kept ≡ true → old.now ≡ new.now) }
-    ensures { RepaintsSized (screen old.now before) (screen new.now after) font.now picture.old list.old result picture.new list.new }
+    ensures { Repaints (screen_of before) (screen_of after) font.now picture.old list.old result picture.new list.new }
 {
-    if (picture.len() != PICTURE) | (list.len() != LIST) | (same & kept) {
-        return 0;
-    }
-    let by_sets = sets_serve(kept, new, sets);
-    let look = looked(old, new, sets, before, after, same, by_sets);
-    let mut listed: usize = 0;
-    let mut cell: usize = 0;
-    while cell < CELLS {
-        let seen = look[cell];
-        if repaint_cell(picture, cell, seen, old, new, before, after, font) {
-            cell += 1;
-        } else {
+    let look = looked(&before, &after, &sets);
+    let mut listed = 0;
+    for (cell, seen) in look.iter().enumerate() {
+        if *seen && !repaint_cell(picture, cell, &before, &after, font) {
             list[listed] = cell as u8;
             listed += 1;
-            cell += 1;
         }
     }
     listed
@@ -177,6 +119,7 @@ fn repaint_cells(
 
 // Each cell that draws otherwise after than before is written and listed; where the picture or the list is not of its size,
 // nothing is. The sets are those of the codes after; others make it slower, and nothing else.
+// Kept: six parameters, since `RepaintsSized` and `repaint_determined` speak of each lent buffer.
 pub fn repaint(
     picture: &mut [u8],
     list: &mut [u8],
@@ -187,35 +130,27 @@ pub fn repaint(
 ) -> usize
     ensures { RepaintsSized (screen_of before) (screen_of after) font.now picture.old list.old result picture.new list.new }
 {
-    let old = before.text;
-    let new = after.text;
-    let a = before.glyphs;
-    let b = after.glyphs;
-    let same = alike_first(&a, &b, 64);
-    let kept = alike_first(&old, &new, CELLS);
-    repaint_cells(
-        picture,
-        list,
-        &old,
-        &new,
-        &sets,
-        glyphs::nested(a),
-        glyphs::nested(b),
-        same,
-        kept,
-        font,
-    )
+    let same = before.glyphs == after.glyphs;
+    let kept = before.text == after.text;
+    if same & kept {
+        return 0;
+    }
+    let Some(picture) = picture.as_mut_array() else {
+        return 0;
+    };
+    let Some(list) = list.as_mut_array() else {
+        return 0;
+    };
+    repaint_cells(picture, list, before, after, sets, font)
 }
 
 // Every cell drawn, whatever the picture held.
-fn draw_cells(picture: &mut [u8], text: &[u8], glyphs: [[u8; 8]; 8], font: &[u8])
-    requires { (length picture.old ≡ 640) × (length text.now ≡ 80) }
-    ensures { picture.new ≡ drawn (screen text.now glyphs) font.now }
+// Kept: std says nothing of what a slice ends as that `as_chunks_mut` cut up, so that a cell is put by its number.
+fn draw_cells(picture: &mut [u8; PICTURE], s: &Shown, font: &[u8])
+    ensures { picture.new ≡ drawn (screen_of s.now) font.now }
 {
-    let mut n: usize = 0;
-    while n < CELLS {
-        put_cell(picture, n, draw(glyphs, font, text[n]));
-        n += 1;
+    for cell in 0..CELLS {
+        put_cell(picture, cell, draw(s, font, cell));
     }
 }
 
@@ -223,9 +158,7 @@ fn draw_cells(picture: &mut [u8], text: &[u8], glyphs: [[u8; 8]; 8], font: &[u8]
 pub fn draw_all(picture: &mut [u8], s: Shown, font: &[u8])
     ensures { DrawsAll (screen_of s) font.now picture.old picture.new }
 {
-    if picture.len() == PICTURE {
-        let text = s.text;
-        let flat = s.glyphs;
-        draw_cells(picture, &text, glyphs::nested(flat), font);
+    if let Some(picture) = picture.as_mut_array() {
+        draw_cells(picture, &s, font);
     }
 }

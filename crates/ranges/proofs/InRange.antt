@@ -2,10 +2,11 @@
 use Prim.Native.Nat.{ℕ, zero, suc, ◌≤◌}
 use mathlib.Core.Path.{◌≡◌, refl, sym, ◌∙◌, ap}
 use mathlib.Core.List.{List, [], ◌∷◌}
-use mathlib.Core.Bool.{Bool, true, false, ◌&&◌, and-eq-true_iff}
+use mathlib.Core.Bool.{Bool, true, false, ◌&&◌, and-eq-true_iff, and_assoc, and-true}
 use lib.ListN.{set}
 use borrow.Author.Tests.{leb-true, le-leb}
-use Rattle.lists.specs.Tests.{all_at_most, when◌then◌else◌}
+use Rattle.std.specs.List.{fold}
+use Rattle.lists.specs.Tests.{all, all_at_most, when◌then◌else◌}
 use Rattle.panel.specs.declared.Settings.{Settings}
 use Rattle.panel.specs.declared.Keys.{Keys}
 use Rattle.panel.specs.declared.Pins.{Pins}
@@ -88,6 +89,12 @@ pins_parts_lem p e =
 pub pins_whole : (p : Pins) → PinsParts p → pins_in_range p ≡ true
 unfolding pins_in_range
 pins_whole p h = rw (le-leb _ _ h.last, le-leb _ _ h.fell, le-leb _ _ h.rose)
+
+-- a fold that ends at no element says whether all pass
+pub folded_all : (test : ℕ → Bool) (xs : List ℕ) (ok : Bool) → fold (λ (ok : Bool) (x : ℕ). ok && test x) ok xs ≡ (ok && all test xs)
+unfolding all
+folded_all test [] ok = sym (and-true ok)
+folded_all test (x ∷ xs) ok = folded_all test xs (ok && test x) ∙ and_assoc ok (test x) (all test xs)
 
 falls : (bs : List Bool) → all_of false bs ≡ false
 unfolding all_of

@@ -16,7 +16,7 @@ use Rattle.panel.specs.declared.Pins.{Pins}
 use Rattle.panel.specs.declared.Panel.{Panel}
 use Rattle.panel.specs.State.{factory_settings, powered_on}
 use Rattle.sets.proofs.Laws.{search_is}
-use Rattle.ranges.specs.Ranges.{all_of, cursor_in_range, dials_in_range, masks_in_range, parts_in_range, keys_in_range, pins_in_range, in_ranges, PartsRange, InputsRange, Ranges}
+use Rattle.ranges.specs.Ranges.{all_of, cursor_in_range, dials_in_range, masks_in_range, parts_in_range, keys_in_range, pins_in_range, in_ranges, AllAtMost, PartsRange, InputsRange, Ranges}
 use Rattle.ranges.proofs.InRange.{panel_whole}
 
 -- The state at power-on is in its ranges: antt computes the tests, and the sets are those of the text.
@@ -26,6 +26,9 @@ power_on_in_range =
     panel_whole powered_on record { count = omega arith; live = refl; boot = refl; keys = refl; pins = refl; sets = search_is factory_settings.shown.text }
 
 -- For each public function, any two results that its promise allows are equal.
+pub all_at_most_determined : (bytes : List ℕ) (most : ℕ) → Determined (AllAtMost bytes most)
+all_at_most_determined bytes most = one _
+
 pub parts_in_range_determined : (glyphs : List ℕ) (cursor : Cursor) (dials : Dials) (masks : Masks) (levels configs : List ℕ) → Determined (PartsRange glyphs cursor dials masks levels configs)
 parts_in_range_determined glyphs cursor dials masks levels configs = one _
 

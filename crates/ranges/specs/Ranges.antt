@@ -67,6 +67,10 @@ unfoldable pub in_ranges : Panel → Bool
 in_ranges p =
     line_in_range p.line && settings_in_range p.body.live && settings_in_range p.body.boot && inputs_in_range p.body.keys p.body.pins && sets_in_range p.body
 
+-- what `all_at_most` promises
+abbrev pub AllAtMost : List ℕ → ℕ → Bool → Type 0
+AllAtMost bytes most r = r ≡ all_at_most most bytes
+
 -- what `parts_in_range` promises
 abbrev pub PartsRange : List ℕ → Cursor → Dials → Masks → List ℕ → List ℕ → Bool → Type 0
 PartsRange glyphs cursor dials masks levels configs r = r ≡ parts_in_range glyphs cursor dials masks levels configs

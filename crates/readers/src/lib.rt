@@ -4,12 +4,11 @@
 
 ghost use Rattle.readers.specs.Handed.{PartOf, HandsBack, ReadsFrom};
 
-use recordings::find;
+use recordings::{Fault, find};
 
-// What asking hands back: the data bytes are a part of the recording, empty without a packet.
+// A packet as it is handed back: the data bytes are a part of the recording.
 #[derive(Clone, Copy)]
 pub struct Handed<'a> {
-    pub number: u8,
     pub kind: u8,
     pub content: &'a [u8],
     pub next: usize,
@@ -26,23 +25,23 @@ pub struct Reader<'a> {
 pub fn part<'a>(recording: &'a [u8], start: usize, length: usize) -> &'a [u8]
     ensures { PartOf recording.entry start length result }
 {
-    let from = lists::at_most(start, recording.len());
-    let n = lists::at_most(length, recording.len() - from);
+    let from = start.min(recording.len());
+    let n = length.min(recording.len() - from);
     &recording[from..from + n]
 }
 
 // The plain reader: the next host packet from a place on.
-pub fn next<'a>(recording: &'a [u8], place: usize) -> Handed<'a>
+pub fn next<'a>(recording: &'a [u8], place: usize) -> Result<Option<Handed<'a>>, Fault>
     ensures { HandsBack recording.entry place result }
 {
-    let f = find(recording, place);
-    let content = part(recording, f.start, f.length);
-    Handed {
-        number: f.number,
+    let Some(f) = find(recording, place)? else {
+        return Ok(None);
+    };
+    Ok(Some(Handed {
         kind: f.kind,
-        content,
+        content: part(recording, f.start, f.length),
         next: f.next,
-    }
+    }))
 }
 
 // The small reader, at a place: 0, or behind a packet that it handed back that packet's `next`.
@@ -53,7 +52,7 @@ pub fn open<'a>(recording: &'a [u8], place: usize) -> Reader<'a>
 }
 
 // The next host packet from the reader's place on.
-pub fn read<'a>(reader: Reader<'a>) -> Handed<'a>
+pub fn read<'a>(reader: Reader<'a>) -> Result<Option<Handed<'a>>, Fault>
     ensures { HandsBack reader.entry.recording reader.entry.place result }
 {
     next(reader.recording, reader.place)

@@ -1,3 +1,2 @@
 pub mod OnePacket
-pub mod Runs
 pub mod Theorems

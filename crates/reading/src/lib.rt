@@ -2,33 +2,29 @@
 // nothing.
 #![tactic(auto)]
 
-ghost use Rattle.std.specs.Prelude.{◌≡◌, ◌≤◌, length};
-ghost use Rattle.lists.specs.Tests.{all_at_most};
+ghost use Rattle.std.specs.Prelude.{◌≡◌, ◌≤◌, length, is_ok};
 ghost use Rattle.packets.specs.Packet.{content_most};
 ghost use Rattle.verdict.specs.Verdict.{verdict_of};
-ghost use Rattle.reading.specs.Reading.{same_run, is_allowed, is_memory, is_poll, is_wired, is_pin, can_reply, key_pressed, key_reported, meaning_of, is_one_packet, reading_with, reading_by, ReadsReply};
+ghost use Rattle.reading.specs.Reading.{is_memory, is_poll, is_wired, is_pin, can_reply, key_pressed, key_reported, meaning_of, reading_with, reading_by, ReadsReply};
 
 use packets::{CONTENT, Judgement};
 use panel::FLASH_BYTES;
-use verdict::Verdict;
 
-// How many data bytes the replies of commands 10, 24 and 35 have.
-const MEMORY: usize = 9;
+// How many rows command 10 replies behind the address, and how many bytes command 24.
+const ROWS: usize = 8;
 
 const POLL: usize = 3;
-
-const PIN: usize = 4;
 
 // What some bytes mean. A reply and an error reply carry the command; a report the key's number and whether it went down.
 #[derive(Clone, Copy)]
 pub enum Meaning {
-    Unreadable,
     Reply(u8),
     ErrorReply(u8),
     Report { number: u8, down: bool },
 }
 
 // The values of a reply are its data bytes, zeros behind them; what is no reply has none.
+// Kept: a count beside an array, since with a slice the promise and the theorems of exchange would speak of places, and not of values alone.
 #[derive(Clone, Copy)]
 pub struct Reading {
     pub meaning: Meaning,
@@ -36,173 +32,126 @@ pub struct Reading {
     pub values: [u8; CONTENT],
 }
 
-// Whether two runs are the same.
-fn same_run(a: &[u8], b: &[u8]) -> bool
-    ensures { result ≡ same_run a.now b.now }
-{
-    if a.len() != b.len() {
-        return false;
-    }
-    let mut ok = true;
-    let mut i = 0;
-    while i < a.len() {
-        ok = ok & (a[i] == b[i]);
-        i += 1;
-    }
-    ok
-}
-
 // Whether the panel allows a command with these data.
 fn allowed(code: u8, content: &[u8]) -> bool
-    ensures { result ≡ is_allowed (verdict_of code content.now) }
+    ensures { result ≡ is_ok (verdict_of code content.now) }
 {
-    match verdict::verdict_on(code, content) {
-        Verdict::Allowed => true,
-        Verdict::Refused(_, _) => false,
-    }
-}
-
-fn all_at_most(most: u8, bytes: &[u8]) -> bool
-    ensures { result ≡ all_at_most most bytes.now }
-{
-    let mut ok = true;
-    let mut i = 0;
-    while i < bytes.len() {
-        ok = ok & (bytes[i] <= most);
-        i += 1;
-    }
-    ok
+    verdict::verdict_on(code, content).is_ok()
 }
 
 // Command 10's reply: an address and eight bytes.
+#[tactic(auto, unfolding(crate::specs::Reading::is_memory))]
 fn is_memory(d: &[u8]) -> bool
     ensures { result ≡ is_memory d.now }
 {
-    if d.len() != MEMORY {
-        return false;
+    match d {
+        [address, rows @ ..] if rows.len() == ROWS => {
+            allowed(10, &d[..1]) && (128 <= *address || ranges::all_at_most(rows, 63))
+        }
+        _ => false,
     }
-    allowed(10, &d[..1]) & ((128 <= d[0]) | all_at_most(63, &d[1..]))
 }
 
 // Command 24's reply: three bytes of six bits.
+#[tactic(auto, unfolding(crate::specs::Reading::is_poll))]
 fn is_poll(d: &[u8]) -> bool
     ensures { result ≡ is_poll d.now }
 {
-    (d.len() == POLL) & all_at_most(63, d)
+    d.len() == POLL && ranges::all_at_most(d, 63)
 }
 
 // Edges and config of a pin.
+#[tactic(auto, using(lists::proofs::Laws::when_true, lists::proofs::Laws::when_false), unfolding(crate::specs::Reading::is_wired))]
 fn is_wired(pin: u8, edges: u8, config: u8) -> bool
     ensures { result ≡ is_wired pin edges config }
 {
     if pin <= 4 {
-        (edges <= 7) & table::config_allowed(config)
+        edges <= 7 && table::config_allowed(config)
     } else {
-        (edges == 0) & (config == 0)
+        edges == 0 && config == 0
     }
 }
 
 // Command 35's reply: pin, edges, level, config.
+#[tactic(auto, unfolding(crate::specs::Reading::is_pin))]
 fn is_pin(d: &[u8]) -> bool
     ensures { result ≡ is_pin d.now }
 {
-    if d.len() != PIN {
-        return false;
+    match d {
+        [pin, edges, level, config] => {
+            allowed(35, &d[..1]) && *level <= 100 && is_wired(*pin, *edges, *config)
+        }
+        _ => false,
     }
-    allowed(35, &d[..1]) & (d[2] <= 100) & is_wired(d[0], d[1], d[3])
 }
 
 // Whether a panel in its ranges can reply these data to a command.
+// Kept: the codes are the paper's own numbers, of which `can_reply` speaks for each byte that may come.
+#[tactic(auto, using(lists::proofs::Laws::when_true, lists::proofs::Laws::when_false), unfolding(crate::specs::Reading::can_reply))]
 fn can_reply(code: u8, d: &[u8]) -> bool
     ensures { result ≡ can_reply code d.now }
 {
     match code {
         0 => true,
-        1 => same_run(d, b"CFA635:h1.1,s1.6"),
+        1 => d == b"CFA635:h1.1,s1.6".as_slice(),
         3 => d.len() == FLASH_BYTES,
         10 => is_memory(d),
         24 => is_poll(d),
         35 => is_pin(d),
-        _ => {
-            let row = table::look(code);
-            row.known & (d.len() == 0)
-        }
+        _ => table::look(code).is_some() && d.is_empty(),
     }
 }
 
-// The number of the key whose press has this code, 1 to 6.
+// The number of the key whose press has this code.
 fn key_pressed(code: u8) -> u8
     requires { (1 ≤ code) × (code ≤ 6) }
     ensures { result ≡ key_pressed code }
 {
-    lists::at(&[0, 0, 5, 3, 4, 1, 2], code as usize)
+    [0, 5, 3, 4, 1, 2][usize::from(code) - 1]
 }
 
-fn key_reported(code: u8) -> Meaning
+// Kept: the codes of the keys are the paper's numbers (`key_reported`).
+#[tactic(auto, using(lists::proofs::Laws::when_true, lists::proofs::Laws::when_false), unfolding(crate::specs::Reading::key_reported))]
+fn key_reported(code: u8) -> Option<Meaning>
     ensures { result ≡ key_reported code }
 {
-    if code == 0 {
-        return Meaning::Unreadable;
-    }
-    if code <= 6 {
-        return Meaning::Report {
+    match code {
+        1..=6 => Some(Meaning::Report {
             number: key_pressed(code),
             down: true,
-        };
-    }
-    if code <= 12 {
-        return Meaning::Report {
+        }),
+        7..=12 => Some(Meaning::Report {
             number: key_pressed(code - 6),
             down: false,
-        };
+        }),
+        _ => None,
     }
-    Meaning::Unreadable
 }
 
 // What a packet of a type and data means.
-fn meaning_of(kind: u8, d: &[u8]) -> Meaning
+// Kept: the types are the paper's numbers (`meaning_of`).
+#[tactic(auto, using(lists::proofs::Laws::when_true, lists::proofs::Laws::when_false), unfolding(crate::specs::Reading::meaning_of))]
+fn meaning_of(kind: u8, d: &[u8]) -> Option<Meaning>
     ensures { result ≡ meaning_of kind d.now }
 {
-    if kind < 64 {
-        return Meaning::Unreadable;
-    }
-    if kind < 128 {
-        if can_reply(kind - 64, d) {
-            return Meaning::Reply(kind - 64);
-        }
-        return Meaning::Unreadable;
-    }
-    if kind == 128 {
-        if d.len() == 1 {
-            return key_reported(d[0]);
-        }
-        return Meaning::Unreadable;
-    }
-    if kind <= 192 {
-        return Meaning::Unreadable;
-    }
-    if d.len() == 0 {
-        return Meaning::ErrorReply(kind - 192);
-    }
-    Meaning::Unreadable
-}
-
-// Whether the bytes are a packet and nothing else.
-fn is_one_packet(bytes: &[u8]) -> bool
-    ensures { result ≡ is_one_packet bytes.now }
-{
-    match packets::judge(bytes) {
-        Judgement::Packet => bytes.len() == lists::wide(bytes[1]) + 4,
-        _ => false,
+    match kind {
+        64..=127 if can_reply(kind - 64, d) => Some(Meaning::Reply(kind - 64)),
+        128 => match d {
+            [code] => key_reported(*code),
+            _ => None,
+        },
+        193..=255 if d.is_empty() => Some(Meaning::ErrorReply(kind - 192)),
+        _ => None,
     }
 }
 
+// Kept: no type of std's is a slice of at most 22 bytes, so that the two functions on one ask for it.
 fn reading_with(meaning: Meaning, values: &[u8]) -> Reading
     requires { length values.now ≤ content_most }
     ensures { result ≡ reading_with meaning values.now }
 {
     let mut bytes = [0u8; CONTENT];
-    lists::paste(&mut bytes, 0, values);
+    bytes[..values.len()].copy_from_slice(values);
     Reading {
         meaning,
         count: values.len(),
@@ -211,24 +160,26 @@ fn reading_with(meaning: Meaning, values: &[u8]) -> Reading
 }
 
 // A packet's meaning, with its values.
-fn reading_by(kind: u8, d: &[u8]) -> Reading
+fn reading_by(kind: u8, d: &[u8]) -> Option<Reading>
     requires { length d.now ≤ content_most }
     ensures { result ≡ reading_by kind d.now }
 {
-    let meaning = meaning_of(kind, d);
-    match meaning {
-        Meaning::Reply(_) => reading_with(meaning, d),
-        _ => reading_with(meaning, &d[..0]),
-    }
+    let meaning = meaning_of(kind, d)?;
+    let values = match meaning {
+        Meaning::Reply(_) => d,
+        _ => &[],
+    };
+    Some(reading_with(meaning, values))
 }
 
 // What the bytes mean, where they are exactly one reply, error reply or report that a panel can write.
-pub fn read(bytes: &[u8]) -> Reading
+pub fn read(bytes: &[u8]) -> Option<Reading>
     ensures { ReadsReply bytes.now result }
 {
-    if is_one_packet(bytes) {
-        let end = bytes.len() - 2;
-        return reading_by(bytes[0], &bytes[2..end]);
+    match (packets::judge(bytes), bytes) {
+        (Judgement::Packet, [kind, length, d @ .., _, _]) if d.len() == usize::from(*length) => {
+            reading_by(*kind, d)
+        }
+        _ => None,
     }
-    reading_with(Meaning::Unreadable, &bytes[..0])
 }

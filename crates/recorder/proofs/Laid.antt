@@ -1,13 +1,13 @@
 -- An entry that was laid down, read where it stands.
-use mathlib.Core.Path.{◌≡◌, refl, sym, ◌∙◌, ap}
-use mathlib.Core.List.{List, [], ◌∷◌, ◌++◌, append_assoc, append-nil}
-use Prim.Native.Nat.{ℕ, suc, ◌+◌, ◌-◌, ◌*◌, ◌/◌, ◌%◌, ◌<◌, ◌≤◌}
+use mathlib.Core.Path.{◌≡◌, sym, ◌∙◌, ap}
+use mathlib.Core.List.{List, [], ◌∷◌, ◌++◌, append_assoc}
+use Prim.Native.Nat.{ℕ, ◌+◌, ◌-◌, ◌<◌, ◌≤◌}
 use native.Mathlib.Nat.{add-zero}
 use native.Mathlib.Omega.{arith}
-use lib.ListN.{length, get_or, take, drop, length-append}
+use lib.ListN.{length, get_or, length-append}
 use lib.Seq.{get_or-append-add, drop-append-add, take-append_seam}
+use Rattle.std.specs.Prelude.{Ok}
 use Rattle.packets.specs.declared.Packet as packets
-use Rattle.framing.specs.Line.{line}
 use Rattle.recordings.specs.Recording.{low16, direction, entry_end, entries_of, first_fault}
 use Rattle.recordings.specs.Next.{from_of, rest_of}
 use Rattle.recordings.specs.Asking.{entry_packets}
@@ -75,7 +75,7 @@ one_of p e s h = omega (arith, length-append p (entry_of e ++ s), length-append 
 
 -- entries that are laid down behind p have no fault
 pub fine_behind : (p : List ℕ) (entries : List Sent) → length (p ++ all_entries entries) ≤ 65535
-    → first_fault (p ++ all_entries entries) (entries_of (p ++ all_entries entries) (length p)) ≡ 0
+    → first_fault (p ++ all_entries entries) (entries_of (p ++ all_entries entries) (length p)) ≡ Ok tt
 unfolding all_entries
 fine_behind p [] h = fault_none (p ++ []) (length p) (omega (arith, length-append p []))
 fine_behind p (e ∷ more) h =

@@ -1,25 +1,25 @@
 -- What holds of recordings that are written over and above the functions' own promises.
-use mathlib.Core.Path.{◌≡◌, refl, sym, ◌∙◌, ap}
-use mathlib.Core.List.{List, [], ◌∷◌, ◌++◌, append_assoc}
+use mathlib.Core.Path.{◌≡◌, refl, ◌∙◌}
+use mathlib.Core.List.{List, ◌++◌, append_assoc}
 use Prim.Native.Nat.{ℕ, ◌≤◌}
 use native.Mathlib.Omega.{arith}
 use borrow.Author.Tests.{le-leb}
 use lib.ListN.{length, length-append}
+use Rattle.std.specs.Prelude.{Ok}
 use Rattle.lists.specs.Promise.{Determined}
 use Rattle.lists.proofs.Theorems.{one}
-use Rattle.packets.specs.declared.Packet as packets
 use Rattle.framing.specs.Line.{line}
 use Rattle.recordings.specs.Recording.{marked, versioned, recording_fault}
 use Rattle.recordings.specs.Asking.{AskedReader}
 use Rattle.recordings.proofs.Asked.{asks_from}
 use Rattle.recordings.proofs.Faults.{by_entries}
-use Rattle.recorder.specs.Written.{recording_start, Sent, by_host, by_panel, all_entries, recording_of, packets_sent, host_packets, host_bytes, Closed, none, host, panel, StartsRecording, HeadsEntry, RoomBehind}
+use Rattle.recorder.specs.Written.{recording_start, Sent, all_entries, recording_of, packets_sent, host_packets, host_bytes, Closed, none, host, panel, StartsRecording, HeadsEntry, RoomBehind}
 use Rattle.recorder.proofs.Closing.{apart}
 use Rattle.recorder.proofs.Laid.{fine_behind, read_behind}
 
 module _ (entries : List Sent) (fits : length (recording_of entries) ≤ 65535) where
   -- Entries of either side, as many as fit, are a recording that is fine.
-  pub written_is_fine : recording_fault (recording_of entries) ≡ 0
+  pub written_is_fine : recording_fault (recording_of entries) ≡ Ok tt
   unfolding marked versioned
   written_is_fine =
       let v = le-leb 5 (length (recording_of entries)) (omega (arith, length-append recording_start (all_entries entries))) in

@@ -16,12 +16,13 @@ pub fn start() -> [u8; ENTRIES]
 pub fn header(direction: u8, n: usize) -> [u8; HEADER]
     ensures { HeadsEntry direction n result }
 {
-    [direction, (n % 256) as u8, (n / 256 % 256) as u8]
+    let [low, high, ..] = n.to_le_bytes();
+    [direction, low, high]
 }
 
 // How many bytes an entry may have behind those that a recording has; 0 where it may have none.
 pub fn room(size: usize) -> usize
     ensures { RoomBehind size result }
 {
-    LONGEST - HEADER - lists::at_most(size, LONGEST - HEADER)
+    (LONGEST - HEADER).saturating_sub(size)
 }

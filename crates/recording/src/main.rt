@@ -2,9 +2,10 @@
 // checked first, and its entries are then walked once.
 #![tactic(auto)]
 
-use recordings::{AHEAD, ENTRIES, Fault, Found, PACKET};
+ghost use Rattle.std.specs.Prelude.{◌≤◌, length};
+
+use recordings::{AHEAD, EntryPlaces, Fault, Flaw, Found};
 use std::io;
-use std::io::{ErrorKind, Read};
 use wording::filled;
 
 // Room for a line.
@@ -13,203 +14,103 @@ const LINE: usize = 200;
 // Room for the longest recording and one byte more, which is one too many.
 const ROOM: usize = 65536;
 
-// How many bytes were read, and whether a read failed.
-#[derive(Clone, Copy)]
-struct Got {
-    count: usize,
-    failed: bool,
-}
-
-// What was listed so far, and whether output was lost.
-#[derive(Clone, Copy)]
+// What was listed so far.
+#[derive(Clone, Copy, Default)]
 struct Listed {
     packets: u64,
     entries: u64,
-    lost: bool,
 }
 
-// Fills the room from a reader, as far as that goes. A failed read is not taken for the end of the input.
-fn input<R: Read>(reader: &mut R, room: &mut [u8]) -> Got {
-    let mut n = 0;
-    while n < room.len() {
-        match reader.read(&mut room[n..]) {
-            Ok(0) => {
-                return Got {
-                    count: n,
-                    failed: false,
-                };
-            }
-            Ok(more) => n += more,
-            Err(_) => {
-                return Got {
-                    count: n,
-                    failed: true,
-                };
-            }
-        }
-    }
-    Got {
-        count: n,
-        failed: false,
-    }
-}
-
-// Writes the front of a buffer to a stream.
-fn put<P: Print>(stream: &P, out: &[u8], length: usize) -> io::Result<()> {
-    let n = lists::at_most(length, out.len());
-    stream.write_all(&out[..n])
-}
-
-// Whether a write failed because nobody reads, which ends the program without a word.
-fn is_unread(written: &io::Result<()>) -> bool {
-    match written {
-        Ok(()) => false,
-        Err(why) => why.kind() == ErrorKind::BrokenPipe,
-    }
-}
-
-// A line on standard error. Where that cannot be written either, nobody can be told.
-fn say<R: Eprint>(rt: &R, words: &str) {
-    let _ = rt.eprintln(words);
-}
-
-// A line of standard output. A failed write is told on standard error.
-fn line<R: Print + Eprint>(rt: &R, out: &[u8], length: usize) -> io::Result<()> {
-    let written = put(rt, out, length);
-    if written.is_err() && !is_unread(&written) {
-        say(rt, "recording: standard output cannot be written");
-    }
-    written
-}
-
-// One more, up to the largest number.
-fn one_more(n: u64) -> u64 {
-    if n < u64::MAX { n + 1 } else { n }
-}
-
-// Where a packet begins, by where its data bytes start.
-fn offset(start: usize) -> u64 {
-    if start < AHEAD {
-        return 0;
-    }
-    (start - AHEAD) as u64
+// A line of standard output.
+fn write<R: Print + Eprint>(rt: &R, line: &[u8]) -> io::Result<()> {
+    telling::write(rt, line, "recording: standard output cannot be written")
 }
 
 // The line of a packet that was found.
-fn told<R: Print + Eprint>(rt: &R, recording: &[u8], f: Found, s: Listed) -> Listed {
-    let packets = one_more(s.packets);
+fn told<R: Print + Eprint>(rt: &R, recording: &[u8], f: Found, s: Listed) -> io::Result<Listed> {
+    let packets = s.packets.saturating_add(1);
+    let offset = f.start.saturating_sub(AHEAD) as u64;
     let content = readers::part(recording, f.start, f.length);
     let mut out = [0u8; LINE];
-    let n = listing::packet(
-        &mut out,
-        packets,
-        s.entries,
-        offset(f.start),
-        f.kind,
-        content,
-    );
-    let lost = line(rt, &out, n).is_err();
-    Listed { packets, lost, ..s }
+    let n = listing::packet(&mut out, packets, s.entries, offset, f.kind, content);
+    write(rt, &out[..n])?;
+    Ok(Listed { packets, ..s })
 }
 
 // The lines of the packets of the entry that stands at a place.
-fn entry<R: Print + Eprint>(rt: &R, recording: &[u8], at: usize, s: Listed) -> Listed {
+fn entry<R: Print + Eprint>(rt: &R, recording: &[u8], at: usize, s: Listed) -> io::Result<Listed> {
     let mut t = Listed {
-        entries: one_more(s.entries),
+        entries: s.entries.saturating_add(1),
         ..s
     };
     let mut place = at;
-    loop {
-        let f = recordings::in_entry(recording, at, place);
-        if f.number != PACKET {
-            return t;
-        }
-        t = told(rt, recording, f, t);
-        if t.lost {
-            return t;
-        }
+    // Kept: the next place comes from the packet that was found.
+    while let Some(f) = recordings::in_entry(recording, at, place) {
+        t = told(rt, recording, f, t)?;
         place = f.next;
     }
+    Ok(t)
 }
 
 // The lines of all entries, each walked once.
-fn entries<R: Print + Eprint>(rt: &R, recording: &[u8]) -> Listed {
-    let mut s = Listed {
-        packets: 0,
-        entries: 0,
-        lost: false,
-    };
-    let mut at = ENTRIES;
-    while at < recording.len() {
-        s = entry(rt, recording, at, s);
-        if s.lost {
-            return s;
-        }
-        at = recordings::behind(recording, at);
+fn entries<R: Print + Eprint>(rt: &R, recording: &[u8]) -> io::Result<Listed> {
+    let mut s = Listed::default();
+    for at in EntryPlaces::new(recording) {
+        s = entry(rt, recording, at, s)?;
     }
-    s
+    Ok(s)
 }
 
 // What a recording that is fine holds.
-fn list<R: Print + Eprint>(rt: &R, recording: &[u8]) {
-    let heading = b"packet entry offset type length data\n";
-    if line(rt, heading, heading.len()).is_err() {
-        return;
-    }
-    let s = entries(rt, recording);
-    if s.lost {
-        return;
-    }
+fn list<R: Print + Eprint>(rt: &R, recording: &[u8]) -> io::Result<()> {
+    write(rt, b"packet entry offset type length data\n")?;
+    let s = entries(rt, recording)?;
     let mut out = [0u8; LINE];
     let n = listing::totals(&mut out, s.packets, s.entries, recording.len() as u64);
-    let _ = line(rt, &out, n);
+    write(rt, &out[..n])
 }
 
 // What is wrong, in words, and at which byte.
-fn words(out: &mut [u8], number: u8, place: u64) -> usize {
-    let at = [place];
-    match number {
-        22 => filled(out, b"recording: too long at byte %\n", &at),
-        23 => filled(out, b"recording: mark wrong or missing at byte %\n", &at),
-        24 => filled(
-            out,
-            b"recording: version unknown or missing at byte %\n",
-            &at,
-        ),
-        25 => filled(out, b"recording: bad direction at byte %\n", &at),
-        _ => filled(out, b"recording: entry cut short at byte %\n", &at),
-    }
+fn words(out: &mut [u8], fault: Fault) -> usize
+    ensures { result ≤ length out.new }
+{
+    let form: &[u8] = match fault.flaw {
+        Flaw::TooLong => b"recording: too long at byte %\n",
+        Flaw::Mark => b"recording: mark wrong or missing at byte %\n",
+        Flaw::Version => b"recording: version unknown or missing at byte %\n",
+        Flaw::Direction => b"recording: bad direction at byte %\n",
+        Flaw::CutShort => b"recording: entry cut short at byte %\n",
+    };
+    filled(out, form, &[fault.place as u64])
 }
 
 // A recording that is refused has one line, and its words on standard error.
 fn refuse<R: Print + Eprint, E: Print>(rt: &R, errors: &E, fault: Fault) {
     let mut out = [0u8; LINE];
-    let n = listing::refusal(&mut out, fault.number);
-    if is_unread(&line(rt, &out, n)) {
+    let n = listing::refusal(&mut out, u8::from(fault.flaw));
+    if telling::is_unread(write(rt, &out[..n])) {
         return;
     }
-    let k = words(&mut out, fault.number, fault.place as u64);
-    let _ = put(errors, &out, k);
+    let k = words(&mut out, fault);
+    let _ = errors.write_all(&out[..k]);
 }
 
 // The lines of a recording, or of its refusal.
 fn tell<R: Print + Eprint, E: Print>(rt: &R, errors: &E, recording: &[u8]) {
-    let fault = recordings::check(recording);
-    if fault.number == 0 {
-        list(rt, recording);
-    } else {
-        refuse(rt, errors, fault);
+    match recordings::check(recording) {
+        Ok(()) => {
+            let _ = list(rt, recording);
+        }
+        Err(fault) => refuse(rt, errors, fault),
     }
 }
 
 fn main(rt: HostRuntime) {
     let mut room = [0u8; ROOM];
-    let mut reader = rt.stdin();
-    let read = input(&mut reader, &mut room);
-    if read.failed {
-        say(&rt, "recording: standard input cannot be read");
+    let (n, read) = telling::fill(&mut rt.stdin(), &mut room);
+    if read.is_err() {
+        telling::say(&rt, "recording: standard input cannot be read");
         return;
     }
-    let n = lists::at_most(read.count, room.len());
     tell(&rt, &rt.stderr(), &room[..n]);
 }

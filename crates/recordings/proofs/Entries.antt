@@ -2,15 +2,18 @@
 use mathlib.Core.Path.{◌≡◌, refl, sym, ◌∙◌}
 use mathlib.Core.List.{List, [], ◌∷◌}
 use mathlib.Core.Logic.{dite}
-use Prim.Native.Nat.{ℕ, zero, suc, ◌+◌, ◌-◌, ◌*◌, ◌<◌, ◌≤◌, min}
+use Prim.Native.Nat.{ℕ, zero, suc, ◌+◌, ◌<◌, ◌≤◌, min}
 use native.Mathlib.Decide.{dec_lt}
 use native.Mathlib.Nat.{add-zero}
 use native.Mathlib.Omega.{arith}
-use borrow.Author.Tests.{lt-ltb, le-ltb, eq-eqb, ne_eqb}
-use lib.ListN.{length, get_or, take, drop, drop_of_length-le}
-use lib.Seq.{drop-cons, drop-drop, get_or-drop}
-use Rattle.lists.proofs.Laws.{when_true, when_false, all_behind}
-use Rattle.recordings.specs.Recording.{low16, entry_size, direction, entry_end, entries_from, entries_of, entry_fault, first_fault, first_faulty}
+use borrow.Author.Tests.{lt-ltb, le-ltb}
+use Rattle.std.specs.Prelude.{Ok, Err}
+use Rattle.recordings.specs.declared.Flaw.{Flaw}
+use Rattle.recordings.specs.declared.Flaw.TheVariants.{Direction, CutShort}
+use lib.ListN.{length, drop, drop_of_length-le}
+use lib.Seq.{drop-cons, drop-drop}
+use Rattle.lists.proofs.Laws.{when_true, when_false}
+use Rattle.recordings.specs.Recording.{low16, direction, entry_end, entries_from, entries_of, entry_fault, first_fault}
 
 -- the bytes that belong to the entry before are passed over
 passed : (r : List ℕ) (at k : ℕ) (bytes : List ℕ) → entries_from r at k bytes ≡ entries_from r (at + k) 0 (drop k bytes)
@@ -32,43 +35,30 @@ module _ (r : List ℕ) (at : ℕ) where
       let e : suc at + (n + 2) ≡ at + (3 + n) = omega arith in
       rw (drop-cons r at 0 h, passed r (suc at) (n + 2) (drop (suc at) r), drop-drop, e)
 
-  pub bad_direction : 1 < direction r at → entry_fault r at ≡ 25
+  pub bad_direction : 1 < direction r at → entry_fault r at ≡ Err Direction
   unfolding entry_fault
   bad_direction h = when_true _ _ _ (lt-ltb 1 (direction r at) h)
 
-  pub cut_short : direction r at ≤ 1 → length r < entry_end r at → entry_fault r at ≡ 26
+  pub cut_short : direction r at ≤ 1 → length r < entry_end r at → entry_fault r at ≡ Err CutShort
   unfolding entry_fault
   cut_short h k = when_false _ _ _ (le-ltb 1 (direction r at) h) ∙ when_true _ _ _ (lt-ltb (length r) (entry_end r at) k)
 
-  pub no_fault : direction r at ≤ 1 → entry_end r at ≤ length r → entry_fault r at ≡ 0
+  pub no_fault : direction r at ≤ 1 → entry_end r at ≤ length r → entry_fault r at ≡ Ok tt
   unfolding entry_fault
   no_fault h k = when_false _ _ _ (le-ltb 1 (direction r at) h) ∙ when_false _ _ _ (le-ltb (length r) (entry_end r at) k)
 
   -- the first fault at an entry that has one, and behind one that has none
-  pub fault_here : (n : ℕ) → at < length r → entry_fault r at ≡ n → 0 < n → first_fault r (entries_of r at) ≡ n
+  pub fault_here : (flaw : Flaw) → at < length r → entry_fault r at ≡ Err flaw → first_fault r (entries_of r at) ≡ Err flaw
   unfolding first_fault
-  fault_here n h e p = rw (an_entry h) (when_false _ _ _ (ne_eqb (entry_fault r at) 0 (λ z. omega arith)) ∙ e)
+  fault_here flaw h e = rw (an_entry h, e)
 
-  pub fault_behind : at < length r → entry_fault r at ≡ 0 → first_fault r (entries_of r at) ≡ first_fault r (entries_of r (entry_end r at))
+  pub fault_behind : at < length r → entry_fault r at ≡ Ok tt → first_fault r (entries_of r at) ≡ first_fault r (entries_of r (entry_end r at))
   unfolding first_fault
-  fault_behind h e = rw (an_entry h) (when_true _ _ _ (eq-eqb (entry_fault r at) 0 e))
+  fault_behind h e = rw (an_entry h, e)
 
-  pub fault_none : length r ≤ at → first_fault r (entries_of r at) ≡ 0
+  pub fault_none : length r ≤ at → first_fault r (entries_of r at) ≡ Ok tt
   unfolding first_fault
   fault_none h = rw (no_entry h)
-
-  -- the same of its place
-  pub faulty_here : at < length r → (entry_fault r at ≡ 0 → ⊥) → first_faulty r (entries_of r at) ≡ at
-  unfolding first_faulty
-  faulty_here h e = rw (an_entry h) (when_false _ _ _ (ne_eqb (entry_fault r at) 0 e))
-
-  pub faulty_behind : at < length r → entry_fault r at ≡ 0 → first_faulty r (entries_of r at) ≡ first_faulty r (entries_of r (entry_end r at))
-  unfolding first_faulty
-  faulty_behind h e = rw (an_entry h) (when_true _ _ _ (eq-eqb (entry_fault r at) 0 e))
-
-  pub faulty_none : length r ≤ at → first_faulty r (entries_of r at) ≡ length r
-  unfolding first_faulty
-  faulty_none h = rw (no_entry h)
 
   pub end_behind : at + 3 ≤ entry_end r at
   unfolding entry_end
@@ -79,11 +69,10 @@ pub entries_most : (r : List ℕ) (at at' : ℕ) → at' ≡ min at (length r) �
 entries_most r at at' e =
     dite (dec_lt (length r) at) (λ p. no_entry r at' (omega arith) ∙ sym (no_entry r at (omega arith))) (λ p. let s : at' ≡ at = omega arith in rw s)
 
--- an entry's size, read in the bytes from its direction byte on
-pub size_by : (r : List ℕ) (at a b : ℕ) → a ≡ get_or (take (length r - at) (drop at r)) 1 0 → b ≡ get_or (take (length r - at) (drop at r)) 2 0 → 3 + a + 256 * b ≡ entry_size r at
-size_by r at a b e f =
-    let x : a ≡ get_or r (at + 1) 0 = e ∙ rw all_behind (get_or-drop at r 1 0) in
-    let y : b ≡ get_or r (at + 2) 0 = f ∙ rw all_behind (get_or-drop at r 2 0) in
-    let z : at + 2 ≡ at + 1 + 1 = omega arith in
-    let w : b ≡ get_or r (at + 1 + 1) 0 = rw z at y in
-    omega arith
+-- the entries from one on are that one and those behind it, and no place behind the recording is one
+pub in_turn : (r : List ℕ) (at next : ℕ) → at < length r → next ≡ min (entry_end r at) (length r) → entries_of r at ≡ at ∷ entries_of r next
+in_turn r at next h p = rw (entries_most r (entry_end r at) next p) (an_entry r at h)
+
+pub first_of_entries : (r : List ℕ) (a at : ℕ) (more : List ℕ) → entries_of r a ≡ at ∷ more → (at ≡ a) × (a < length r) × (more ≡ entries_of r (entry_end r a))
+first_of_entries r a at more e =
+    dite (dec_lt a (length r)) (λ h. let s = an_entry r a h in (cc, h, cc)) (λ h. let s = no_entry r a (omega arith) in cc)

@@ -8,7 +8,6 @@ use lib.Seq.{drop-drop}
 use Rattle.lists.proofs.Laws.{part}
 use Rattle.packets.specs.declared.Judgement.{Judgement}
 use Rattle.packets.specs.declared.Judgement.TheVariants.{Wait, LongLength, WrongChecksum, Packet}
-use Rattle.packets.specs.declared.Packet as packets
 use Rattle.packets.specs.Packet.{packet_of}
 use Rattle.packets.specs.Judge.{length_byte, judge}
 use Rattle.packets.proofs.Judgements as seen

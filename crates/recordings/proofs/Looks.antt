@@ -1,18 +1,22 @@
 -- Looking for a packet, one entry at a time.
 use mathlib.Core.Path.{◌≡◌, refl, sym, ◌∙◌, ap}
 use mathlib.Core.Bool.{Bool, true, false}
-use mathlib.Core.List.{List, []}
+use mathlib.Core.List.{List, [], ◌∷◌}
 use mathlib.Core.Logic.{dite}
+use Rattle.std.specs.Prelude.{Some, None, Ok, Err}
+use Rattle.lists.specs.Tests.{when◌then◌else◌}
+use Rattle.recordings.specs.declared.Flaw.{Flaw}
 use Prim.Native.Nat.{ℕ, zero, suc, ◌+◌, ◌-◌, ◌<◌, ◌≤◌, min}
 use native.Mathlib.Decide.{dec_lt}
 use native.Mathlib.Omega.{arith}
-use borrow.Author.Tests.{lt-ltb, le-ltb, le-leb, lt-leb, eq-eqb, ne_eqb}
+use borrow.Author.Tests.{lt-ltb, le-ltb, eq-eqb, ne_eqb}
 use lib.ListN.{length, take, drop, length-drop, drop_of_length-le}
 use lib.Seq.{length-take-le}
+use Rattle.std.proofs.lemmas.List.{get_or_past}
 use Rattle.lists.proofs.Laws.{when_true, when_false, take_limited}
 use Rattle.recordings.specs.declared.Found.{Found}
-use Rattle.recordings.specs.Recording.{direction, entry_end, entries_of, recording_fault}
-use Rattle.recordings.specs.Next.{before, from_of, rest_of, holds_packet, packet_from, no_packet, no_more, in_entry, first_packet, next_packet}
+use Rattle.recordings.specs.Recording.{direction, entry_end, entries_of, recording_fault, faulty_place, fault_of}
+use Rattle.recordings.specs.Next.{before, from_of, rest_of, holds_packet, packet_from, no_packet, in_entry, first_packet, next_packet}
 use Rattle.recordings.proofs.Entries.{no_entry, an_entry}
 
 -- what is left of the smaller of two ends
@@ -24,34 +28,50 @@ take-nil zero = refl
 take-nil (suc n) = refl
 
 module _ (r : List ℕ) (place at : ℕ) where
-  pub panel_entry : (direction r at ≡ 0 → ⊥) → in_entry r place at ≡ no_more place
+  pub panel_entry : (direction r at ≡ 0 → ⊥) → in_entry r place at ≡ None
   unfolding in_entry holds_packet
   panel_entry h = when_false _ _ _ (rw (ne_eqb (direction r at) 0 h))
 
-  pub none_in : length (rest_of r place at) ≤ before (rest_of r place at) → direction r at ≡ 0 → in_entry r place at ≡ no_more place
+  pub none_in : length (rest_of r place at) ≤ before (rest_of r place at) → direction r at ≡ 0 → in_entry r place at ≡ None
   unfolding in_entry holds_packet
   none_in h d = when_false _ _ _ (rw (eq-eqb (direction r at) 0 d, le-ltb (before (rest_of r place at)) (length (rest_of r place at)) h))
 
   pub one_in : before (rest_of r place at) < length (rest_of r place at) → direction r at ≡ 0
-      → in_entry r place at ≡ packet_from r (from_of place at + before (rest_of r place at))
+      → in_entry r place at ≡ Some (packet_from r (from_of place at + before (rest_of r place at)))
   unfolding in_entry holds_packet
   one_in h d = when_true _ _ _ (rw (eq-eqb (direction r at) 0 d, lt-ltb (before (rest_of r place at)) (length (rest_of r place at)) h))
 
-  -- an entry's answer is a packet, or there is none in it
-  holds_by : (t : Bool) → holds_packet r place at ≡ t → ((in_entry r place at).number ≡ 3 → t ≡ true) × (((in_entry r place at).number ≡ 3 → ⊥) → t ≡ false)
-  unfolding in_entry
-  holds_by true e = (λ _. refl, λ n. absurd (n (ap (λ (f : Found). f.number) (when_true _ _ _ e))))
-  holds_by false e = (λ n. absurd (omega (arith, ap (λ (f : Found). f.number) (when_false (holds_packet r place at) (packet_from r (from_of place at + before (rest_of r place at))) (no_more place) e))), λ _. refl)
+  pub found_first : (more : List ℕ) (f : Found) → in_entry r place at ≡ Some f → first_packet r place (at ∷ more) ≡ Some f
+  unfolding first_packet in_entry when◌then◌else◌
+  found_first more f e = go (holds_packet r place at) refl
+    where
+      go : (t : Bool) → holds_packet r place at ≡ t → first_packet r place (at ∷ more) ≡ Some f
+      go true h = rw h (rw h at e)
+      go false h = let z = rw h at e in cc
 
-  pub found_here : at < length r → (in_entry r place at).number ≡ 3 → first_packet r place (entries_of r at) ≡ in_entry r place at
+  pub found_later : (more : List ℕ) → in_entry r place at ≡ None → first_packet r place (at ∷ more) ≡ first_packet r place more
+  unfolding first_packet in_entry when◌then◌else◌
+  found_later more e = go (holds_packet r place at) refl
+    where
+      go : (t : Bool) → holds_packet r place at ≡ t → first_packet r place (at ∷ more) ≡ first_packet r place more
+      go true h = let z = rw h at e in cc
+      go false h = rw h
+
+  -- no entry stands past the recording's end
+  pub none_past : length r ≤ at → in_entry r place at ≡ None
+  none_past h =
+      none_in (rw (drop_of_length-le r {i = from_of place at} (omega arith), take-nil (entry_end r at - from_of place at)) (omega arith)) (get_or_past r at 0 h)
+
+  -- the first packet is the entry's, where it has one, and else that of the entries behind it
+  pub found_here : (f : Found) → at < length r → in_entry r place at ≡ Some f → first_packet r place (entries_of r at) ≡ Some f
   unfolding first_packet
-  found_here h n = rw (an_entry r at h) (when_true _ _ _ ((holds_by (holds_packet r place at) refl).0 n))
+  found_here f h e = rw (an_entry r at h) (found_first (entries_of r (entry_end r at)) f e)
 
-  pub found_behind : at < length r → ((in_entry r place at).number ≡ 3 → ⊥) → first_packet r place (entries_of r at) ≡ first_packet r place (entries_of r (entry_end r at))
+  pub found_behind : at < length r → in_entry r place at ≡ None → first_packet r place (entries_of r at) ≡ first_packet r place (entries_of r (entry_end r at))
   unfolding first_packet
-  found_behind h n = rw (an_entry r at h) (when_false _ _ _ ((holds_by (holds_packet r place at) refl).1 n))
+  found_behind h e = rw (an_entry r at h) (found_later (entries_of r (entry_end r at)) e)
 
-  pub found_none : length r ≤ at → first_packet r place (entries_of r at) ≡ no_more place
+  pub found_none : length r ≤ at → first_packet r place (entries_of r at) ≡ None
   unfolding first_packet
   found_none h = rw (no_entry r at h)
 
@@ -78,19 +98,19 @@ module _ (r : List ℕ) (place at : ℕ) where
       same : i ≡ before (rest_of r place at)
       same = b ∙ ap before rest_cut
 
-      pub one_by : i < end - start → packet_from r (start + i) ≡ in_entry r place at
+      pub one_by : i < end - start → Some (packet_from r (start + i)) ≡ in_entry r place at
       one_by h =
           let f : start ≡ from_of place at = omega arith in
           rw (f, same) (sym (one_in (omega (arith, same, rest_size)) d))
 
-      pub none_by : end - start ≤ i → no_more place ≡ in_entry r place at
+      pub none_by : end - start ≤ i → None ≡ in_entry r place at
       none_by h = sym (none_in (omega (arith, same, rest_size)) d)
 
 module _ (r : List ℕ) (place : ℕ) where
-  pub refuses : (n : ℕ) → n ≡ recording_fault r → (n ≡ 0 → ⊥) → no_packet n place ≡ next_packet r place
-  unfolding next_packet
-  refuses n e h = rw e (sym (when_false _ _ _ (ne_eqb (recording_fault r) 0 (λ z. h (e ∙ z)))))
+  pub refuses : (flaw : Flaw) → recording_fault r ≡ Err flaw → next_packet r place ≡ no_packet flaw (faulty_place r)
+  unfolding next_packet fault_of
+  refuses flaw e = rw e
 
-  pub seeks : recording_fault r ≡ 0 → first_packet r place (entries_of r 5) ≡ next_packet r place
-  unfolding next_packet
-  seeks z = sym (when_true _ _ _ (eq-eqb (recording_fault r) 0 z))
+  pub seeks : recording_fault r ≡ Ok tt → next_packet r place ≡ Ok (first_packet r place (entries_of r 5))
+  unfolding next_packet fault_of
+  seeks z = rw z

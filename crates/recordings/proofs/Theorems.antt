@@ -1,15 +1,17 @@
 -- What holds of recordings over and above the functions' own promises.
-use mathlib.Core.Path.{◌≡◌, refl, sym, ◌∙◌, ap}
+use mathlib.Core.Path.{◌≡◌, sym, ◌∙◌}
 use mathlib.Core.List.{List, [], ◌∷◌}
-use Prim.Native.Nat.{ℕ, ◌+◌, ◌<◌, ◌≤◌, min}
-use native.Mathlib.Omega.{arith}
+use Prim.Native.Nat.{ℕ, ◌<◌}
 use lib.ListN.{length}
+use Rattle.std.specs.Prelude.{Ok}
+use Rattle.recordings.specs.declared.Flaw.{Flaw}
+use Rattle.std.specs.Borrow.{Bor}
 use Rattle.lists.specs.Promise.{Determined}
 use Rattle.lists.proofs.Theorems.{one}
 use Rattle.packets.specs.declared.Packet as packets
 use Rattle.packets.specs.Hold.{hold_of}
 use Rattle.framing.specs.Line.{Tally, Calls}
-use Rattle.recordings.specs.Recording.{direction, entry_end, entries_of, recording_fault, ChecksRecording, Passes}
+use Rattle.recordings.specs.Recording.{direction, entries_of, recording_fault, NumbersFlaw, ChecksRecording, Passes, WalksEntries}
 use Rattle.recordings.specs.Next.{FindsIn, Finds}
 use Rattle.recordings.specs.Asking.{AskedReader, AskedEntry, entry_bytes, entry_packets, CalledOn, AllOrNone}
 use Rattle.recordings.proofs.Asked as asked
@@ -19,7 +21,7 @@ use Rattle.recordings.proofs.Looks as looks
 
 -- "within an entry its packets equal those that line calls find from an empty hold", however the bytes are cut into calls: asking the
 -- reader until there is no more finds those of each host entry in turn,
-pub as_line_calls : (r : List ℕ) (found called : List packets.Packet) → recording_fault r ≡ 0 → AskedReader r 0 found → CalledOn r (entries_of r 5) called → found ≡ called
+pub as_line_calls : (r : List ℕ) (found called : List packets.Packet) → recording_fault r ≡ Ok tt → AskedReader r 0 found → CalledOn r (entries_of r 5) called → found ≡ called
 as_line_calls r found called z a c = asked.asked_alike a (asked.asks_from r z 0) ∙ calls.called_on c
 
 -- and asking in one host entry finds those of its bytes.
@@ -31,7 +33,7 @@ entry_as_line_calls r at most found t d a c = asked.asked_alike a (asked.entry_f
 pub all_or_none : (r : List ℕ) → AllOrNone r
 all_or_none r =
     record {
-      none = λ f place. sym (looks.refuses r place (recording_fault r) refl f);
+      none = λ flaw e place. looks.refuses r place flaw e;
       all = λ z. asked.asks_from r z 0;
       only = λ z found a. asked.asked_alike a (asked.asks_from r z 0);
     }
@@ -42,9 +44,15 @@ entry_by_entry r at found a = asked.asked_alike a (asked.entry_from r at 0)
 
 -- and the place behind an entry, no further than the recording, is where the entries go on.
 pub entries_in_turn : (r : List ℕ) (at next : ℕ) → at < length r → Passes r at next → entries_of r at ≡ at ∷ entries_of r next
-entries_in_turn r at next h p = entries.an_entry r at h ∙ ap (λ (l : List ℕ). at ∷ l) (sym (entries.entries_most r (entry_end r at) next p))
+entries_in_turn r at next h p = entries.in_turn r at next h p
 
 -- Any two results that a promise allows are equal.
+pub flaw_number_determined : (flaw : Flaw) → Determined (NumbersFlaw flaw)
+flaw_number_determined flaw = one _
+
+pub entries_determined : (recording : Bor (List ℕ)) → Determined (WalksEntries recording)
+entries_determined recording x y p q = λ i. record { recording = (p.0 ∙ sym q.0) i; at = (p.1 ∙ sym q.1) i }
+
 pub check_determined : (r : List ℕ) → Determined (ChecksRecording r)
 check_determined r = one _
 

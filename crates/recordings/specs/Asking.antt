@@ -1,29 +1,31 @@
 -- Asking from a place on until there is no more, and what line calls find in the host entries.
-use Rattle.std.specs.Prelude.{ℕ, ◌+◌, ◌-◌, ◌≡◌, List, [], ◌∷◌, ◌++◌, take, drop}
+use Rattle.std.specs.Prelude.{ℕ, ◌+◌, ◌-◌, ◌≡◌, Option, Some, Result, Ok, Err, List, [], ◌∷◌, ◌++◌, take, drop}
 use Rattle.lists.specs.Tests.{when◌then◌else◌, ◌=?◌}
 use Rattle.packets.specs.declared.Packet as packets
 use Rattle.packets.specs.Packet.{packet_of}
 use Rattle.packets.specs.Hold.{hold_of}
 use Rattle.framing.specs.Line.{Tally, Calls, line}
+use Rattle.recordings.specs.declared.Fault.{Fault}
+use Rattle.recordings.specs.declared.Flaw.{Flaw}
 use Rattle.recordings.specs.declared.Found.{Found}
-use Rattle.recordings.specs.Recording.{entries_start, entry_head, direction, entry_end, entries_of, recording_fault}
-use Rattle.recordings.specs.Next.{rest_of, no_packet, in_entry, next_packet}
+use Rattle.recordings.specs.Recording.{entries_start, entry_head, direction, entry_end, entries_of, recording_fault, faulty_place}
+use Rattle.recordings.specs.Next.{rest_of, no_packet, no_more, in_entry, next_packet}
 
 -- the packet of an answer
 abbrev pub packet_found : List ℕ → Found → packets.Packet
 packet_found r f = packet_of f.kind (take f.length (drop f.start r))
 
 -- Asked ask r place found: asking from the place on, each time from the answer's next, until there is no more, finds these
-pub data Asked (ask : ℕ → Found) (r : List ℕ) : ℕ → List packets.Packet → Type 0 where
-  over : {place : ℕ} → (ask place).number ≡ 1 → Asked ask r place []
-  one : {place : ℕ} {more : List packets.Packet} → (ask place).number ≡ 3 → Asked ask r (ask place).next more → Asked ask r place (packet_found r (ask place) ∷ more)
+pub data Asked (ask : ℕ → Result (Option Found) Fault) (r : List ℕ) : ℕ → List packets.Packet → Type 0 where
+  over : {place : ℕ} → ask place ≡ no_more → Asked ask r place []
+  one : {place : ℕ} {f : Found} {more : List packets.Packet} → ask place ≡ Ok (Some f) → Asked ask r f.next more → Asked ask r place (packet_found r f ∷ more)
 
 -- the reader asked, and one entry alone
 abbrev pub AskedReader : List ℕ → ℕ → List packets.Packet → Type 0
 AskedReader r = Asked (next_packet r) r
 
 abbrev pub AskedEntry : List ℕ → ℕ → ℕ → List packets.Packet → Type 0
-AskedEntry r at = Asked (λ place. in_entry r place at) r
+AskedEntry r at = Asked (λ place. Ok (in_entry r place at)) r
 
 -- the bytes of an entry
 abbrev pub entry_bytes : List ℕ → ℕ → List ℕ
@@ -49,6 +51,6 @@ pub data CalledOn (r : List ℕ) : List ℕ → List packets.Packet → Type 0 w
 -- that is fine, asking from the start until there is no more comes to an end with the packets of all host entries, in order,
 -- and to nothing else
 pub record AllOrNone (r : List ℕ) : Type 0 where
-  pub none : (recording_fault r ≡ 0 → ⊥) → (place : ℕ) → next_packet r place ≡ no_packet (recording_fault r) place
-  pub all : recording_fault r ≡ 0 → AskedReader r 0 (packets_of r 0 (entries_of r entries_start))
-  pub only : recording_fault r ≡ 0 → (found : List packets.Packet) → AskedReader r 0 found → found ≡ packets_of r 0 (entries_of r entries_start)
+  pub none : (flaw : Flaw) → recording_fault r ≡ Err flaw → (place : ℕ) → next_packet r place ≡ no_packet flaw (faulty_place r)
+  pub all : recording_fault r ≡ Ok tt → AskedReader r 0 (packets_of r 0 (entries_of r entries_start))
+  pub only : recording_fault r ≡ Ok tt → (found : List packets.Packet) → AskedReader r 0 found → found ≡ packets_of r 0 (entries_of r entries_start)

@@ -2,9 +2,10 @@
 // command.
 #![tactic(auto)]
 
-ghost use Rattle.std.specs.Prelude.{◌≡◌, ◌+◌, ◌<◌, ◌≤◌, max, min, length, get_or};
-ghost use Rattle.recordings.specs.Recording.{entries_start, entry_size, marked, versioned, entries_of, entry_fault, first_faulty, fault_of, ChecksRecording, Passes};
-ghost use Rattle.recordings.specs.Next.{before, from_of, packet_from, no_packet, first_packet, FindsIn, Finds};
+ghost use Rattle.std.specs.Prelude.{◌≡◌, ◌+◌, ◌*◌, ◌<◌, ◌≤◌, min, length, get_or, MatchOption};
+ghost use Rattle.std.specs.Iterator.{YieldsFirst, item_count};
+ghost use Rattle.recordings.specs.Recording.{entries_start, entry_size, marked, versioned, entries_of, entry_fault, fault_of, entries_checked, entries_left, NumbersFlaw, ChecksRecording, Passes, WalksEntries};
+ghost use Rattle.recordings.specs.Next.{before, packet_from, first_packet, FindsIn, Finds};
 
 use packets::Judgement;
 
@@ -24,47 +25,111 @@ const CHECKSUM: usize = 2;
 const VERSION: usize = 3;
 
 // The direction of an entry with what the host sent, and of one with what the panel sent.
+// Kept: numbers, since any byte may stand where an entry has its direction.
 pub const HOST: u8 = 0;
 
 pub const PANEL: u8 = 1;
 
-// The numbers of an answer: there is no more, or a packet. 22 to 26 refuse the recording.
-pub const NO_MORE: u8 = 1;
+// What is wrong with a recording: it is too long, its mark or its version is wrong or missing, or an entry has a bad direction or is
+// cut short.
+#[derive(Clone, Copy, PartialEq, Eq)]
+pub enum Flaw {
+    TooLong,
+    Mark,
+    Version,
+    Direction,
+    CutShort,
+}
 
-pub const PACKET: u8 = 3;
+// Kept: a match, so that each number stands beside its flaw, as in the paper's list.
+impl From<Flaw> for u8 {
+    ghost from_gives = { NumbersFlaw };
 
-// What the check of a recording finds: a number, and the byte that it is about.
-#[derive(Clone, Copy)]
+    fn from(flaw: Flaw) -> u8 {
+        match flaw {
+            Flaw::TooLong => 22,
+            Flaw::Mark => 23,
+            Flaw::Version => 24,
+            Flaw::Direction => 25,
+            Flaw::CutShort => 26,
+        }
+    }
+}
+
+// What is wrong, and the byte that it is about.
+#[derive(Clone, Copy, PartialEq, Eq)]
 pub struct Fault {
-    pub number: u8,
+    pub flaw: Flaw,
     pub place: usize,
 }
 
-// What asking comes to, as places: where the data bytes start and how many there are, and the place to ask from for the packet
-// behind. Without a packet these are 0, 0 and the place as it came.
-#[derive(Clone, Copy)]
+// A packet that was found, as places: where the data bytes start and how many there are, and the place to ask from for the packet
+// behind.
+#[derive(Clone, Copy, PartialEq, Eq)]
 pub struct Found {
-    pub number: u8,
     pub kind: u8,
     pub start: usize,
     pub length: usize,
     pub next: usize,
 }
 
+// The places of a recording's entries, from one on.
+#[derive(Clone, Copy)]
+pub struct EntryPlaces<'a> {
+    recording: &'a [u8],
+    at: usize,
+}
+
+impl<'a> Iterator for EntryPlaces<'a> {
+    type Item = usize;
+
+    ghost next_gives = { YieldsFirst entries_left };
+
+    ghost remaining = { item_count entries_left };
+
+    fn next(&mut self) -> Option<usize> {
+        let at = self.at;
+        if self.recording.len() <= at {
+            return None;
+        }
+        self.at = behind(self.recording, at);
+        Some(at)
+    }
+}
+
+impl<'a> EntryPlaces<'a> {
+    // All entries of a recording.
+    pub fn new(recording: &'a [u8]) -> EntryPlaces<'a>
+        ensures { WalksEntries recording.entry result }
+    {
+        EntryPlaces {
+            recording,
+            at: ENTRIES,
+        }
+    }
+}
+
+#[tactic(auto, unfolding(crate::specs::Recording::marked))]
 fn is_marked(recording: &[u8]) -> bool
     ensures { result ≡ marked recording.now }
 {
-    (lists::at(recording, 0) == b'P')
-        & (lists::at(recording, 1) == b'L')
-        & (lists::at(recording, 2) == b'R')
+    recording.starts_with(b"PLR")
 }
 
+// 16 bits, low byte first; a byte past the end counts as 0.
+fn low16(bytes: &[u8]) -> usize
+    ensures { (result ≡ get_or bytes.now 0 0 + 256 * get_or bytes.now 1 0) × (result < 65536) }
+{
+    let low = bytes.first().copied().unwrap_or(0);
+    let high = bytes.get(1).copied().unwrap_or(0);
+    usize::from(u16::from_le_bytes([low, high]))
+}
+
+#[tactic(auto, unfolding(crate::specs::Recording::versioned))]
 fn has_version(recording: &[u8]) -> bool
     ensures { result ≡ versioned recording.now }
 {
-    let low = lists::wide(lists::at(recording, VERSION));
-    let high = lists::wide(lists::at(recording, VERSION + 1));
-    (ENTRIES <= recording.len()) & (low + 256 * high == 1)
+    ENTRIES <= recording.len() && low16(&recording[VERSION..]) == 1
 }
 
 // How many bytes an entry says that it has, its header among them.
@@ -72,101 +137,90 @@ fn size_at(recording: &[u8], at: usize) -> usize
     requires { at < length recording.now }
     ensures { (result ≡ entry_size recording.now at) × (result ≤ 65538) }
 {
-    let entry = &recording[at..];
-    HEADER + lists::wide(lists::at(entry, 1)) + 256 * lists::wide(lists::at(entry, 2))
+    HEADER + low16(&recording[at + 1..])
 }
 
 // The place behind the entry that stands at a place; where that is behind the recording, the recording's end.
+#[tactic(auto, unfolding(crate::specs::Recording::entry_end))]
 pub fn behind(recording: &[u8], at: usize) -> usize
     ensures { Passes recording.now at result }
 {
     if recording.len() <= at {
         return recording.len();
     }
-    at + lists::at_most(size_at(recording, at), recording.len() - at)
+    at.saturating_add(size_at(recording, at))
+        .min(recording.len())
 }
 
-// What is wrong with the entry that stands at a place: 25 its direction, 26 that it is cut short, or 0.
-fn fault_at(recording: &[u8], at: usize) -> u8
+// What is wrong with the entry that stands at a place.
+#[tactic(auto, using(lists::proofs::Laws::when_true, lists::proofs::Laws::when_false), unfolding(crate::specs::Recording::entry_end, crate::specs::Recording::entry_fault, crate::specs::Recording::fault_of))]
+fn fault_at(recording: &[u8], at: usize) -> Result<(), Fault>
     requires { at < length recording.now }
-    ensures { result ≡ entry_fault recording.now at }
+    ensures { result ≡ fault_of (entry_fault recording.now at) at }
 {
     if PANEL < recording[at] {
-        return 25;
+        return Err(Fault {
+            flaw: Flaw::Direction,
+            place: at,
+        });
     }
     if recording.len() - at < size_at(recording, at) {
-        return 26;
+        return Err(Fault {
+            flaw: Flaw::CutShort,
+            place: at,
+        });
     }
-    0
+    Ok(())
 }
 
-fn fault_of(number: u8, place: usize) -> Fault
-    ensures { result ≡ fault_of number place }
+// What is wrong with the first faulty entry.
+fn check_entries(recording: &[u8]) -> Result<(), Fault>
+    ensures { result ≡ entries_checked recording.now (entries_of recording.now entries_start) }
 {
-    Fault { number, place }
-}
-
-// The place of the first faulty entry, or the recording's end.
-fn first_faulty(recording: &[u8]) -> usize
-    ensures { result ≡ first_faulty recording.now (entries_of recording.now entries_start) }
-{
-    let mut at = ENTRIES;
-    while at < recording.len() {
-        if fault_at(recording, at) != 0 {
-            return at;
-        }
-        at = behind(recording, at);
+    for at in EntryPlaces::new(recording) {
+        fault_at(recording, at)?;
     }
-    recording.len()
+    Ok(())
 }
 
-// What is wrong with a recording, and at which byte: 22 the first byte too many, 23 the mark, 24 the version, 25 or 26 the first
-// faulty entry. Where nothing is, 0 and the recording's end.
-pub fn check(recording: &[u8]) -> Fault
+// What is wrong with a recording, and at which byte: the first byte too many, the mark, the version, or the first faulty entry.
+pub fn check(recording: &[u8]) -> Result<(), Fault>
     ensures { ChecksRecording recording.now result }
 {
     if LONGEST < recording.len() {
-        return fault_of(22, LONGEST);
+        return Err(Fault {
+            flaw: Flaw::TooLong,
+            place: LONGEST,
+        });
     }
     if !is_marked(recording) {
-        return fault_of(23, 0);
+        return Err(Fault {
+            flaw: Flaw::Mark,
+            place: 0,
+        });
     }
     if !has_version(recording) {
-        return fault_of(24, VERSION);
+        return Err(Fault {
+            flaw: Flaw::Version,
+            place: VERSION,
+        });
     }
-    let at = first_faulty(recording);
-    if at < recording.len() {
-        return fault_of(fault_at(recording, at), at);
-    }
-    fault_of(0, at)
+    check_entries(recording)
 }
 
-// How many bytes stand before the first packet, all of them where there is none. A wait ends the look: nothing more comes.
-fn before_packet(bytes: &[u8]) -> usize
-    ensures { result ≡ before bytes.now }
+// Where the first packet stands. A wait ends the look: nothing more comes.
+// Kept: each turn is about all bytes from a place on, and not about a byte.
+fn before_packet(bytes: &[u8]) -> Option<usize>
+    ensures { MatchOption result (before bytes.now ≡ length bytes.now) (λ i. (before bytes.now ≡ i) × (i < length bytes.now)) }
 {
-    let mut i = 0;
-    loop {
-        let j = packets::judge(&bytes[i..]);
-        match j {
-            Judgement::Wait => return bytes.len(),
-            Judgement::LongLength => i += 1,
-            Judgement::WrongChecksum => i += 1,
-            Judgement::Packet => return i,
+    for i in 0..bytes.len() {
+        match packets::judge(&bytes[i..]) {
+            Judgement::Packet => return Some(i),
+            Judgement::Wait => return None,
+            Judgement::LongLength | Judgement::WrongChecksum => {}
         }
     }
-}
-
-fn nothing(number: u8, place: usize) -> Found
-    ensures { result ≡ no_packet number place }
-{
-    Found {
-        number,
-        kind: 0,
-        start: 0,
-        length: 0,
-        next: place,
-    }
+    None
 }
 
 // The packet whose type stands at a place.
@@ -174,9 +228,8 @@ fn packet_from(recording: &[u8], at: usize) -> Found
     requires { at + (get_or recording.now (at + 1) 0 + 4) ≤ length recording.now }
     ensures { result ≡ packet_from recording.now at }
 {
-    let n = lists::wide(recording[at + 1]);
+    let n = usize::from(recording[at + 1]);
     Found {
-        number: PACKET,
         kind: recording[at],
         start: at + AHEAD,
         length: n,
@@ -184,61 +237,38 @@ fn packet_from(recording: &[u8], at: usize) -> Found
     }
 }
 
-// Where the look into an entry begins, but not behind the entry's end.
-fn start_in(at: usize, place: usize, end: usize) -> usize
-    ensures { result ≡ min (from_of place at) end }
-{
-    if end < HEADER {
-        return end;
-    }
-    if end - HEADER < at {
-        return end;
-    }
-    if place < at + HEADER {
-        return at + HEADER;
-    }
-    lists::at_most(place, end)
-}
-
 // The first packet from a place on of the entry that stands at a place, if it is of the host.
-pub fn in_entry(recording: &[u8], at: usize, place: usize) -> Found
+pub fn in_entry(recording: &[u8], at: usize, place: usize) -> Option<Found>
     ensures { FindsIn recording.now at place result }
 {
-    if lists::at(recording, at) != HOST {
-        return nothing(NO_MORE, place);
+    let direction = recording.get(at)?;
+    if *direction != HOST {
+        return None;
     }
     let end = behind(recording, at);
-    let start = start_in(at, place, end);
-    let i = before_packet(&recording[start..end]);
-    if i < end - start {
-        return packet_from(recording, start + i);
-    }
-    nothing(NO_MORE, place)
+    let start = place.max(at.saturating_add(HEADER)).min(end);
+    let i = before_packet(&recording[start..end])?;
+    Some(packet_from(recording, start + i))
 }
 
 // The first packet from a place on, entry by entry.
-fn seek(recording: &[u8], place: usize) -> Found
+// Kept: `find_map` does not say that the item at which it stops gave Some, so that its proof does not close.
+fn seek(recording: &[u8], place: usize) -> Option<Found>
     ensures { result ≡ first_packet recording.now place (entries_of recording.now entries_start) }
 {
-    let mut at = ENTRIES;
-    while at < recording.len() {
-        let f = in_entry(recording, at, place);
-        if f.number == PACKET {
-            return f;
+    for at in EntryPlaces::new(recording) {
+        if let Some(found) = in_entry(recording, at, place) {
+            return Some(found);
         }
-        at = behind(recording, at);
     }
-    nothing(NO_MORE, place)
+    None
 }
 
-// The next host packet from a place on, as places: from 0 on the first, from an answer's `next` on the one behind it. The whole
+// The next host packet from a place on, as places: from 0 on the first, from a packet's `next` on the one behind it. The whole
 // recording is checked first, each time.
-pub fn find(recording: &[u8], place: usize) -> Found
+pub fn find(recording: &[u8], place: usize) -> Result<Option<Found>, Fault>
     ensures { Finds recording.now place result }
 {
-    let fault = check(recording).number;
-    if fault != 0 {
-        return nothing(fault, place);
-    }
-    seek(recording, place)
+    check(recording)?;
+    Ok(seek(recording, place))
 }

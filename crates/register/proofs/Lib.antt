@@ -1,3 +1,2 @@
-pub mod Filings
-pub mod Seeking
+pub mod Slots
 pub mod Theorems

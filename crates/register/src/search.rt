@@ -1,17 +1,10 @@
-// The search for the record to file in, one record at a time: all on plain values.
-ghost use Rattle.std.specs.Prelude.{◌≡◌, ◌<◌, ◌+◌, ◌^◌};
+// The search for the record to file in: the first in use with the key, else the first free one.
+ghost use Rattle.std.specs.Prelude.{◌≡◌, position};
 ghost use Rattle.filing.specs.Filing.{is_free, is_with};
-ghost use Rattle.register.specs.Run.{one_more, seen_more, slot_of};
+ghost use Rattle.register.specs.Run.{FindsSlot};
+ghost use Rattle.filing.specs.declared.Refusal.{Refusal};
 
 use filing::{Record, Refusal};
-
-// What a search of the first records shows: the first in use with the key, and the first free one; where there is none,
-// as many records as were seen.
-#[derive(Clone, Copy)]
-pub struct Seen {
-    pub known: usize,
-    pub free: usize,
-}
 
 fn is_free(r: Record) -> bool
     ensures { result ≡ is_free r }
@@ -19,42 +12,39 @@ fn is_free(r: Record) -> bool
     r.count == 0
 }
 
+// The key of a record in use.
+fn key_of(r: Record) -> Refusal
+    ensures { result ≡ record { command = r.command; reason = r.reason; place = r.place } }
+{
+    Refusal {
+        command: r.command,
+        reason: r.reason,
+        place: r.place,
+    }
+}
+
 fn is_with(k: Refusal, r: Record) -> bool
     ensures { result ≡ is_with k r }
 {
-    !(r.count == 0) & (r.command == k.command) & (r.reason == k.reason) & (r.place == k.place)
+    !is_free(r) && key_of(r) == k
 }
 
-// The first that passes among the first `i + 1`, where it is `first` among the first `i`.
-fn one_more(first: usize, i: usize, passes: bool) -> usize
-    requires { i + 1 < 2 ^ 64 }
-    ensures { result ≡ one_more first i passes }
+fn first_with(register: &[Record], k: Refusal) -> Option<usize>
+    ensures { result ≡ position (is_with k) register.now }
 {
-    if first < i {
-        return first;
-    }
-    if passes {
-        return i;
-    }
-    i + 1
+    register.iter().position(|r| is_with(k, *r))
 }
 
-// One record more is looked at, the one at `i`.
-pub fn seen_more(s: Seen, i: usize, k: Refusal, r: Record) -> Seen
-    requires { i + 1 < 2 ^ 64 }
-    ensures { result ≡ seen_more s i k r }
+fn first_free(register: &[Record]) -> Option<usize>
+    ensures { result ≡ position is_free register.now }
 {
-    let known = one_more(s.known, i, is_with(k, r));
-    let free = one_more(s.free, i, is_free(r));
-    Seen { known, free }
+    register.iter().position(|r| is_free(*r))
 }
 
-// The record to file in, once all `n` are seen; `n` where there is none.
-pub fn slot_of(s: Seen, n: usize) -> usize
-    ensures { result ≡ slot_of s n }
+// The record to file in, where there is one.
+pub fn find(register: &[Record], k: Refusal) -> Option<usize>
+    ensures { FindsSlot register.now k result }
 {
-    if s.known < n {
-        return s.known;
-    }
-    s.free
+    let known = first_with(register, k);
+    known.or_else(|| first_free(register))
 }

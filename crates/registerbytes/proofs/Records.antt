@@ -1,17 +1,17 @@
 -- Laws of records and their bytes, one record at a time.
-use mathlib.Core.Path.{◌≡◌, sym, ◌∙◌, ap}
-use mathlib.Core.List.{List, [], ◌∷◌, ◌++◌, append-nil, map, map-append}
-use Prim.Native.Nat.{ℕ, suc, ◌+◌, ◌*◌, ◌<◌, ◌≤◌}
-use native.Mathlib.Nat.{zero-add}
+use Rattle.std.specs.List.{range_with_len}
+use mathlib.Core.Path.{◌≡◌, refl, sym, ◌∙◌, ap}
+use mathlib.Core.List.{List, [], ◌∷◌, ◌++◌, map, map-append}
+use Prim.Native.Nat.{ℕ, zero, suc, ◌+◌, ◌*◌, ◌<◌, ◌≤◌}
 use native.Mathlib.Numerals.{add-one}
 use native.Mathlib.Omega.{arith}
-use lib.ListN.{length, take, drop, get_or, set, length-map, drop_of_length-le}
-use lib.Seq.{take-suc, drop-cons, append_snoc, set_at, length-take-le}
+use lib.ListN.{length, take, get_or, length-map}
+use lib.Seq.{take-suc, length-take-le}
 use Rattle.lists.specs.Runs.{front, pasted}
 use Rattle.lists.proofs.Laws.{front_run}
 use Rattle.shapes.specs.Words.{word_of}
 use Rattle.shapes.specs.Shape.{bytes, value, size, collected, joined, Sized, Each}
-use Rattle.shapes.proofs.Rows.{joined_more, length-joined, length-collected, collected_more}
+use Rattle.shapes.proofs.Rows.{joined_more, length-joined}
 use Rattle.shapes.proofs.Laws.{length-bytes}
 use Rattle.filing.specs.declared.Record.{Record}
 use Rattle.filing.specs.Filing.{blank}
@@ -35,13 +35,6 @@ bytes_of_record b k =
     let sixth : k + 3 + 3 ≡ k + 6 = omega arith in
     rw (second, third, fourth, fifth, sixth)
 
--- the first n records of the bytes
-abbrev pub records_of : ℕ → List ℕ → List Record
-records_of n b = collected (record_at b) n 0 (size record_shape)
-
-pub length-records : (n : ℕ) (b : List ℕ) → length (records_of n b) ≡ n
-length-records n b = length-collected (size record_shape) (record_at b) n 0
-
 pub all_sized : (records : List Record) → Each (Sized record_shape) (map record_parts records)
 all_sized [] = tt
 all_sized (r ∷ records) = ((tt, (tt, (tt, tt))), all_sized records)
@@ -58,19 +51,14 @@ unfolding register_bytes bytes
 written_more records r =
     ap (joined (bytes record_shape)) (map-append record_parts records (r ∷ [])) ∙ joined_more (bytes record_shape) (map record_parts records) (record_parts r)
 
--- one record more is read
-pub read_turn : (n : ℕ) (b : List ℕ) (o : List Record) → n < length o
-    → set (records_of n b ++ drop n o) n (record_at b (n * size record_shape)) ≡ records_of (n + 1) b ++ drop (n + 1) o
-read_turn n b o h =
-    let r = record_at b (n * size record_shape) in
-    let more : records_of (suc n) b ≡ records_of n b ++ r ∷ [] = rw (zero-add (n * size record_shape)) at (collected_more (size record_shape) (record_at b) n 0) in
-    rw (drop-cons o n blank h, add-one n)
-    (set_at (records_of n b) (get_or o n blank) (drop (suc n) o) r n (length-records n b)
-    ∙ sym (ap (λ (l : List Record). l ++ drop (suc n) o) more ∙ append_snoc (records_of n b) r (drop (suc n) o)))
-
--- all are read
-pub read_all : (n : ℕ) (b : List ℕ) (o : List Record) → length o ≤ n → records_of n b ++ drop n o ≡ records_of n b
-read_all n b o h = rw (drop_of_length-le o {i = n} h) (append-nil (records_of n b))
+-- the records at n places, one record apart
+pub records_collected : (b : List ℕ) (n a : ℕ) → map (λ i. record_at b (i * size record_shape)) (range_with_len a n) ≡ collected (record_at b) n (a * size record_shape) (size record_shape)
+unfolding collected
+records_collected b zero a = refl
+records_collected b (suc n) a =
+    let e : (a + 1) * size record_shape ≡ a * size record_shape + size record_shape = omega arith in
+    let more = rw e at (records_collected b n (a + 1)) in
+    λ i. record_at b (a * size record_shape) ∷ more i
 
 -- one record more is written
 pub write_turn : (n : ℕ) (records : List Record) (o : List ℕ) → n < length records → n * size record_shape + size record_shape ≤ length o

@@ -7,6 +7,7 @@ ghost use Rattle.registerbytes.specs.Register.{record_shape, record_parts, recor
 
 use filing::{RECORDS, Record};
 use shapes::words::{word_bytes, word_of};
+use std::array;
 
 // How many bytes a record takes, and a register.
 pub const RECORD: usize = 7;
@@ -28,26 +29,18 @@ fn record_at(faults: &[u8], k: usize) -> Record
 fn record_bytes(r: Record) -> [u8; RECORD]
     ensures { result ≡ bytes record_shape (record_parts r) }
 {
-    let count = word_bytes(r.count);
-    [
-        r.command, r.reason, r.place, count[0], count[1], count[2], count[3],
-    ]
+    let [a, b, c, d] = word_bytes(r.count);
+    [r.command, r.reason, r.place, a, b, c, d]
 }
 
 // The records that the bytes are; free ones where the bytes are no register.
 pub fn read(faults: &[u8]) -> [Record; RECORDS]
     ensures { ReadsRegister faults.now result }
 {
-    let mut records = filing::empty();
     if faults.len() != REGISTER {
-        return records;
+        return filing::empty();
     }
-    let mut i: usize = 0;
-    while i < RECORDS {
-        records[i] = record_at(faults, i * RECORD);
-        i += 1;
-    }
-    records
+    array::from_fn(|i| record_at(faults, i * RECORD))
 }
 
 // The records written as their bytes; bytes that are no register are left alone.
@@ -57,10 +50,7 @@ pub fn write(faults: &mut [u8], records: [Record; RECORDS])
     if faults.len() != REGISTER {
         return;
     }
-    let mut i: usize = 0;
-    while i < RECORDS {
-        let fault = record_bytes(records[i]);
-        lists::paste(faults, i * RECORD, &fault);
-        i += 1;
+    for (i, r) in records.iter().enumerate() {
+        lists::paste(faults, i * RECORD, &record_bytes(*r));
     }
 }

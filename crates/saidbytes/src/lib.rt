@@ -3,32 +3,36 @@
 
 ghost use Rattle.saidbytes.specs.Says.{Says, SaysRefused};
 
-use answers::{Answer, Check};
+use answers::{Answer, Check, NO_COUNTS};
 use framing::Counts;
 
 // How many bytes it takes.
 pub const SAID: usize = 16;
 
 // The numbers of the answer, the counts, the reply's length and how many cells are listed; returns the answer's number.
+#[tactic(auto, unfolding(crate::specs::Says::said_bytes, shapes::specs::Shape::bytes))]
 pub fn write(said: &mut [u8; SAID], answer: Answer, c: Counts, reply: usize, listed: usize) -> u8
     ensures { Says answer c reply listed result said.new }
 {
     let n = answers::told(answer);
+    let taken = c.taken.to_le_bytes();
+    let dropped = c.dropped.to_le_bytes();
+    let checked = c.checked.to_le_bytes();
     *said = [
         n.number,
         n.command,
         n.reason,
         n.place,
-        (c.taken % 256) as u8,
-        (c.taken / 256 % 256) as u8,
-        (c.dropped % 256) as u8,
-        (c.dropped / 256 % 256) as u8,
-        (c.checked % 256) as u8,
-        (c.checked / 256 % 256) as u8,
-        (c.checked / 65536 % 256) as u8,
-        (c.checked / 16777216 % 256) as u8,
-        (reply % 256) as u8,
-        (listed % 256) as u8,
+        taken[0],
+        taken[1],
+        dropped[0],
+        dropped[1],
+        checked[0],
+        checked[1],
+        checked[2],
+        checked[3],
+        reply.to_le_bytes()[0],
+        listed.to_le_bytes()[0],
         0,
         0,
     ];
@@ -39,10 +43,5 @@ pub fn write(said: &mut [u8; SAID], answer: Answer, c: Counts, reply: usize, lis
 pub fn refused(said: &mut [u8; SAID], check: Check) -> u8
     ensures { SaysRefused check result said.new }
 {
-    let none = Counts {
-        taken: 0,
-        dropped: 0,
-        checked: 0,
-    };
-    write(said, Answer::CallRefused(check), none, 0, 0)
+    write(said, Answer::CallRefused(check), NO_COUNTS, 0, 0)
 }

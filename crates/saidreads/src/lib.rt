@@ -1,19 +1,12 @@
 // What a call says, read from its 16 bytes.
 #![tactic(auto)]
 
-ghost use Rattle.std.specs.Prelude.{◌≡◌};
-ghost use Rattle.shapes.specs.Words.{half_of};
 ghost use Rattle.saidreads.specs.Told.{ReadsSaid};
 
 use saidbytes::SAID;
 use tally::CallTold;
 
-fn half_of(a: u8, b: u8) -> u64
-    ensures { result ≡ half_of a b }
-{
-    a as u64 + 256 * (b as u64)
-}
-
+#[tactic(auto, unfolding(crate::specs::Told::call_of, shapes::specs::Shape::value))]
 pub fn told(said: &[u8; SAID]) -> CallTold
     ensures { ReadsSaid said.now result }
 {
@@ -22,10 +15,10 @@ pub fn told(said: &[u8; SAID]) -> CallTold
         command: said[1],
         reason: said[2],
         place: said[3],
-        taken: half_of(said[4], said[5]),
-        dropped: half_of(said[6], said[7]),
-        checked: shapes::words::word_of(said[8], said[9], said[10], said[11]) as u64,
-        reply: lists::wide(said[12]),
-        listed: lists::wide(said[13]),
+        taken: u64::from(u16::from_le_bytes([said[4], said[5]])),
+        dropped: u64::from(u16::from_le_bytes([said[6], said[7]])),
+        checked: u64::from(u32::from_le_bytes([said[8], said[9], said[10], said[11]])),
+        reply: usize::from(said[12]),
+        listed: usize::from(said[13]),
     }
 }

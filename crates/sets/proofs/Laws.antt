@@ -1,15 +1,17 @@
 -- Laws of the sets, cell by cell.
 use Prim.Native.Nat.{ℕ, zero, suc, ◌+◌, ◌%◌, ◌≤◌, ◌<◌}
-use mathlib.Core.Path.{◌≡◌, refl, sym, ◌∙◌, ap}
+use mathlib.Core.Path.{◌≡◌, refl, sym, ◌∙◌, ap, subst}
 use mathlib.Core.Logic.{◌↔◌, dite}
-use mathlib.Core.Bool.{Bool, true, ◌&&◌, false≢true, and-eq-true_iff}
+use mathlib.Core.Bool.{Bool, true, ◌&&◌, false≢true, and-eq-true_iff, and_assoc, and-true}
 use mathlib.Core.List.{List, [], ◌∷◌}
-use native.Mathlib.Numerals.{add-one}
 use native.Mathlib.Decide.{dec_lt, ℕ_discrete}
 use native.Mathlib.Omega.{arith}
 use borrow.Author.Tests.{eqb-true, eq-eqb, ne_eqb}
-use lib.ListN.{length, get_or, set, length-map}
-use lib.Seq.{ext_get_or, get_or-set_same, get_or-set_other}
+use lib.ListN.{length, get_or, length-map}
+use lib.Seq.{ext_get_or}
+use denote.Param.Members.{Mut, Called}
+use Rattle.std.specs.List.{fold, zip}
+use Rattle.std.specs.Array.{IsFromFnResult, IsFromFnResultFrom}
 use Rattle.lists.specs.Tests.{◌=?◌}
 use Rattle.lists.proofs.Laws.{when_either}
 use Rattle.glyphs.specs.Source.{Source, special, font, is_special, source_of}
@@ -43,18 +45,40 @@ draws_special glyph (font code) = (λ e. absurd (false≢true e), λ e. let z : 
 abbrev pub Marked : List ℕ → List ℕ → ℕ → Type 0
 Marked text sets n = (cell : ℕ) → cell < n → get_or sets cell 0 ≡ mark_of (get_or text cell 0)
 
-pub marked_turn : (text sets : List ℕ) (n : ℕ) → n < length sets → Marked text sets n → Marked text (set sets n (mark_of (get_or text n 0))) (n + 1)
-marked_turn text sets n h m cell l =
-    dite (ℕ_discrete cell n) (λ e. rw e (get_or-set_same sets n (mark_of (get_or text n 0)) 0 h)) (λ e. get_or-set_other sets n cell (mark_of (get_or text n 0)) 0 e ∙ m cell (omega arith))
+-- what `array::from_fn` made of a closure whose calls leave it as it is
+module _ {F B : Type 0} (g : Mut F (ℕ × Unit {0}) B) (f : F) (h : ℕ → B) (same : (i : ℕ) (y : B) (q : F) → Called g f (i, tt) y q → (q ≡ f) × (y ≡ h i)) where
+  made_from : (ys : List B) (i n : ℕ) → IsFromFnResultFrom g f ys i n → (k : ℕ) (d : B) → i ≤ k → k < i + n → get_or ys k d ≡ h k
+  made_from ys i zero made k d low high = absurd (omega arith)
+  made_from ys i (suc n) made k d low high =
+      let s = same i made.1 made.0 made.3 in
+      dite (ℕ_discrete k i) (λ e. rw e (made.2.1 d ∙ s.1))
+      (λ e. made_from ys (i + 1) n (subst (λ (q : F). IsFromFnResultFrom g q ys (i + 1) n) s.0 made.4) k d (omega arith) (omega arith))
+
+  pub made_at : (ys : List B) (n : ℕ) → IsFromFnResult g f ys n → (k : ℕ) (d : B) → k < n → get_or ys k d ≡ h k
+  made_at ys n made k d l = made_from ys 0 n made.each k d (omega arith) (omega arith)
 
 pub marked_all : (text sets : List ℕ) → length sets ≡ length text → Marked text sets (length text) → sets ≡ searched text
 marked_all text sets size m =
     ext_get_or 0 sets (searched text) (size ∙ sym (length-map text mark_of)) (λ cell h. m cell (omega arith) ∙ sym (searched_at text cell (omega arith)))
 
--- one cell more compared, at the code's cell + 1
-pub below_turn : (text sets : List ℕ) (cell : ℕ) (ok : Bool) → ok ≡ searched_below text sets cell → ok && (get_or sets cell 0 =? mark_of (get_or text cell 0)) ≡ searched_below text sets (cell + 1)
+-- the pairs compared from the front: `right` folds over them
+abbrev pub agrees : Bool → ℕ × ℕ → Bool
+agrees ok pair = ok && (pair.0 =? mark_of pair.1)
+
+below_cons : (text sets : List ℕ) (code mark n : ℕ) → searched_below (code ∷ text) (mark ∷ sets) (suc n) ≡ (mark =? mark_of code) && searched_below text sets n
 unfolding searched_below
-below_turn text sets cell ok e = rw (add-one, e)
+below_cons text sets code mark zero = sym (and-true _)
+below_cons text sets code mark (suc n) = rw (below_cons text sets code mark n) (and_assoc (mark =? mark_of code) (searched_below text sets n) (get_or sets n 0 =? mark_of (get_or text n 0)))
+
+pub pairs_below : (text sets : List ℕ) (ok : Bool) → length sets ≡ length text → fold agrees ok (zip sets text) ≡ (ok && searched_below text sets (length text))
+unfolding searched_below
+pairs_below [] [] ok h = sym (and-true ok)
+pairs_below [] (mark ∷ sets) ok h = absurd (omega arith)
+pairs_below (code ∷ text) [] ok h = absurd (omega arith)
+pairs_below (code ∷ text) (mark ∷ sets) ok h =
+    pairs_below text sets (agrees ok (mark, code)) (omega arith)
+    ∙ and_assoc ok (mark =? mark_of code) (searched_below text sets (length text))
+    ∙ ap (λ (b : Bool). ok && b) (sym (below_cons text sets code mark (length text)))
 
 below_at : (text sets : List ℕ) (n : ℕ) → searched_below text sets n ≡ true → Marked text sets n
 unfolding searched_below

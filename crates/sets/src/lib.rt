@@ -5,6 +5,8 @@
 ghost use Rattle.std.specs.Prelude.{◌≡◌};
 ghost use Rattle.sets.specs.Sets.{mark_of, Searches, ComparesSets};
 
+use std::array;
+
 // How many cells there are.
 pub const CELLS: usize = 80;
 
@@ -12,40 +14,32 @@ pub const CELLS: usize = 80;
 const GLYPHS: u8 = glyphs::GLYPHS as u8;
 
 // The byte of a cell with that code.
+#[tactic(auto, using(lists::proofs::Laws::when_true, lists::proofs::Laws::when_false), unfolding(glyphs::specs::Source::source_of, crate::specs::Sets::mark_for))]
 fn mark_of(code: u8) -> u8
     ensures { result ≡ mark_of code }
 {
     if glyphs::is_special(code) {
-        return code % GLYPHS + 1;
+        code % GLYPHS + 1
+    } else {
+        0
     }
-    0
 }
 
 // The sets that a search of the text finds.
 pub fn search(text: [u8; CELLS]) -> [u8; CELLS]
     ensures { Searches text result }
 {
-    let mut sets = [0u8; CELLS];
-    let mut cell: usize = 0;
-    while cell < CELLS {
-        sets[cell] = mark_of(text[cell]);
-        cell += 1;
-    }
-    sets
+    array::from_fn(|cell| mark_of(text[cell]))
 }
 
-// Whether the sets are those that a search of the text finds.
+// Whether the sets are those that a search of the text finds. No cell ends the test, so that it goes sixteen cells at a time.
 pub fn right(text: &[u8], sets: &[u8]) -> bool
     ensures { ComparesSets text.now sets.now result }
 {
     if sets.len() != text.len() {
         return false;
     }
-    let mut ok = true;
-    let mut cell: usize = 0;
-    while cell < text.len() {
-        ok = ok & (sets[cell] == mark_of(text[cell]));
-        cell += 1;
-    }
-    ok
+    sets.iter()
+        .zip(text)
+        .fold(true, |ok, (mark, code)| ok & (*mark == mark_of(*code)))
 }

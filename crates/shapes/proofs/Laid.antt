@@ -3,7 +3,7 @@ use mathlib.Core.Path.{◌≡◌, sym, ◌∙◌, ap}
 use mathlib.Core.List.{List, [], ◌∷◌, ◌++◌, append_assoc}
 use Prim.Native.Nat.{ℕ, suc, ◌+◌, ◌-◌, ◌≤◌, ◌<◌}
 use native.Mathlib.Omega.{arith}
-use lib.ListN.{length, take, drop, get_or, set, length-append, length-drop}
+use lib.ListN.{length, take, drop, get_or, set, length-append}
 use lib.Seq.{take-length, take_at, drop-append-add, drop-drop, drop-cons, length-take-le, set_split}
 use borrow.Author.Tests.{le-leb, lt-leb}
 use Rattle.lists.specs.Runs.{pasted}
@@ -63,7 +63,7 @@ unfolding filled
 filled_short o b k h = when_false _ _ _ (lt-leb (k + length o) (length b) h)
 
 -- filled, as the code lends the part
-pub filled_lent : (o b : List ℕ) (k : ℕ) → k + length o ≤ length b → pasted o 0 (take (k + length o - k) (drop k b)) ≡ filled o b k
+pub filled_lent : (o b : List ℕ) (k : ℕ) → k + length o ≤ length b → take (k + length o - k) (drop k b) ≡ filled o b k
 filled_lent o b k h =
     let e : k + length o - k ≡ length o = omega arith in
-    rw e (fills o _ (length-take-le (length o) (drop k b) (omega (arith, length-drop k b))) ∙ sym (filled_fits o b k h))
+    rw e (sym (filled_fits o b k h))

@@ -8,17 +8,12 @@ pub const WORD: usize = 4;
 pub fn word_of(a: u8, b: u8, c: u8, d: u8) -> u32
     ensures { ReadsWord a b c d result }
 {
-    (a as u32) + 256 * (b as u32) + 65536 * (c as u32) + 16777216 * (d as u32)
+    u32::from_le_bytes([a, b, c, d])
 }
 
 // The four bytes of a number.
 pub fn word_bytes(n: u32) -> [u8; WORD]
     ensures { WritesWord n result }
 {
-    [
-        (n % 256) as u8,
-        (n / 256 % 256) as u8,
-        (n / 65536 % 256) as u8,
-        (n / 16777216 % 256) as u8,
-    ]
+    n.to_le_bytes()
 }

@@ -1,51 +1,52 @@
 // The line's part of the state: read where it stands, and written over it.
-ghost use Rattle.std.specs.Prelude.{◌≡◌, ◌+◌, ◌≤◌, length};
-ghost use Rattle.shapes.specs.Shape.{word, size, Stands, Lays};
+ghost use Rattle.std.specs.Prelude.{◌+◌, ◌≤◌, length};
+ghost use Rattle.shapes.specs.Shape.{run, Stands, Lays};
 ghost use Rattle.statebytes.specs.Layout.{line_shape, line_parts};
-ghost use Rattle.statebytes.specs.State.{state_size, ReadsLine, WritesLine};
+ghost use Rattle.statebytes.specs.State.{ReadsLine, WritesLine};
 
 use crate::places::{COUNT, HELD, SIZE, UNFILED};
 use packets::Hold;
 use panel::Line;
-use shapes::words::word_of;
+use shapes::words::{WORD, word_of};
 use shapes::{lay_byte, lay_word};
 
-fn word_at(bytes: &[u8], place: usize) -> u32
-    requires { place + size word ≤ length bytes.now }
-    ensures { Stands word result bytes.now place }
+// The N bytes that stand at a place.
+fn part<const N: usize>(bytes: &[u8], place: usize) -> &[u8; N]
+    requires { place + N ≤ length bytes.now }
+    ensures { Stands (run N) result.now bytes.now place }
 {
-    word_of(
-        bytes[place],
-        bytes[place + 1],
-        bytes[place + 2],
-        bytes[place + 3],
-    )
+    match bytes[place..].first_chunk() {
+        Some(part) => part,
+        None => unreachable!(),
+    }
 }
 
-fn line_of(state: &[u8]) -> Line
-    requires { length state.now ≡ state_size }
+fn line_of(state: &[u8; SIZE]) -> Line
     ensures { Stands line_shape (line_parts result) state.now 0 }
 {
-    let mut bytes = [0u8; packets::HELD];
-    shapes::fill(&mut bytes, state, HELD);
-    let unfiled = word_at(state, UNFILED);
-    let count = lists::wide(state[COUNT]);
-    let hold = Hold { bytes, count };
-    Line { hold, unfiled }
+    let hold = Hold {
+        bytes: *part(state, HELD),
+        count: usize::from(state[COUNT]),
+    };
+    let [a, b, c, d]: [u8; WORD] = *part(state, UNFILED);
+    Line {
+        hold,
+        unfiled: word_of(a, b, c, d),
+    }
 }
 
 // The line's part that the bytes have; of bytes that are no state, the one at power-on.
 pub fn read_line(state: &[u8]) -> Line
     ensures { ReadsLine state.now result }
 {
-    if state.len() != SIZE {
-        let panel = panel::powered_on();
-        return panel.line;
+    match state.as_array() {
+        Some(state) => line_of(state),
+        None => panel::powered_on().line,
     }
-    line_of(state)
 }
 
-fn lay_line(state: &mut [u8], l: Line)
+// Kept: the remainder says that a count has one byte of the state; of eight bytes by `to_le_bytes` seven would be let go.
+fn lay_line(state: &mut [u8; SIZE], l: Line)
     ensures { Lays line_shape (line_parts l) state.old 0 state.new }
 {
     lay_byte(state, COUNT, (l.hold.count % 256) as u8);
@@ -57,8 +58,7 @@ fn lay_line(state: &mut [u8], l: Line)
 pub fn write_line(state: &mut [u8], l: Line)
     ensures { WritesLine state.old l state.new }
 {
-    if state.len() != SIZE {
-        return;
+    if let Some(state) = state.as_mut_array() {
+        lay_line(state, l);
     }
-    lay_line(state, l);
 }

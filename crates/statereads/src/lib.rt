@@ -2,15 +2,12 @@
 #![tactic(auto)]
 
 ghost use Rattle.std.specs.Prelude.{◌≡◌, ◌+◌, ◌≤◌, length};
-ghost use Rattle.shapes.specs.Shape.{size, value, Stands};
+ghost use Rattle.shapes.specs.Shape.{run, value, Stands};
 ghost use Rattle.ranges.specs.Ranges.{settings_in_range, sets_in_range, in_ranges};
-ghost use Rattle.statebytes.specs.Layout.{shown_shape, shown_parts, cursor_shape, cursor_parts, cursor_place, dials_shape, dials_parts, dials_place, masks_shape, masks_parts, masks_place, wires_shape, wires_parts, wires_place, settings_shape, settings_parts, settings_from, bits_shape, keys_parts, keys_place, pins_parts, pins_place, body_shape, body_parts, body_place};
-ghost use Rattle.statebytes.specs.State.{state_size, panel_of, ReadsBody, RangesState};
+ghost use Rattle.statebytes.specs.Layout.{cursor_shape, cursor_parts, cursor_place, dials_shape, dials_parts, dials_place, masks_shape, masks_parts, masks_place, settings_shape, settings_parts, settings_from, bits_shape, keys_parts, keys_place, pins_parts, pins_place, body_shape, body_parts, body_place};
+ghost use Rattle.statebytes.specs.State.{panel_of, ReadsBody, RangesState};
 
-use panel::{
-    Body, CODES, Cursor, Dials, FLASH_BYTES, GLYPH_ROWS, INPUTS, Keys, Masks, PINS, Pins, Settings,
-    Shown, Wires,
-};
+use panel::{Body, Cursor, Dials, Keys, Masks, Pins, Settings, Shown, Wires};
 use statebytes::places::{
     BACKLIGHT, BOOT, COLUMN, CONFIGS, CONTRAST, COUNT, DOWN, FELL, FLASH, GLYPHS, LAST, LEVELS,
     LIVE, PRESS, PRESSED, RELEASE, RELEASED, ROSE, ROW, SETS, SETTINGS, SIZE, STYLE, TEXT,
@@ -21,19 +18,19 @@ const LIVE_TEXT: usize = LIVE + TEXT;
 
 const LIVE_GLYPHS: usize = LIVE + GLYPHS;
 
-fn shown_of(bytes: &[u8]) -> Shown
-    requires { length bytes.now ≡ size settings_shape }
-    ensures { Stands shown_shape (shown_parts result) bytes.now 0 }
+// The N bytes that stand at a place.
+// Kept: statebytes has the same for the line; a public one would ask something of its callers, which no public function here does.
+fn part<const N: usize>(bytes: &[u8], place: usize) -> &[u8; N]
+    requires { place + N ≤ length bytes.now }
+    ensures { Stands (run N) result.now bytes.now place }
 {
-    let mut text = [0u8; CODES];
-    shapes::fill(&mut text, bytes, TEXT);
-    let mut glyphs = [0u8; GLYPH_ROWS];
-    shapes::fill(&mut glyphs, bytes, GLYPHS);
-    Shown { text, glyphs }
+    match bytes[place..].first_chunk() {
+        Some(part) => part,
+        None => unreachable!(),
+    }
 }
 
-fn cursor_of(bytes: &[u8]) -> Cursor
-    requires { length bytes.now ≡ size settings_shape }
+fn cursor_of(bytes: &[u8; SETTINGS]) -> Cursor
     ensures { Stands cursor_shape (cursor_parts result) bytes.now cursor_place }
 {
     Cursor {
@@ -42,8 +39,7 @@ fn cursor_of(bytes: &[u8]) -> Cursor
     }
 }
 
-fn dials_of(bytes: &[u8]) -> Dials
-    requires { length bytes.now ≡ size settings_shape }
+fn dials_of(bytes: &[u8; SETTINGS]) -> Dials
     ensures { Stands dials_shape (dials_parts result) bytes.now dials_place }
 {
     Dials {
@@ -53,8 +49,7 @@ fn dials_of(bytes: &[u8]) -> Dials
     }
 }
 
-fn masks_of(bytes: &[u8]) -> Masks
-    requires { length bytes.now ≡ size settings_shape }
+fn masks_of(bytes: &[u8; SETTINGS]) -> Masks
     ensures { Stands masks_shape (masks_parts result) bytes.now masks_place }
 {
     Masks {
@@ -63,46 +58,26 @@ fn masks_of(bytes: &[u8]) -> Masks
     }
 }
 
-fn wires_of(bytes: &[u8]) -> Wires
-    requires { length bytes.now ≡ size settings_shape }
-    ensures { Stands wires_shape (wires_parts result) bytes.now wires_place }
-{
-    let mut levels = [0u8; PINS];
-    shapes::fill(&mut levels, bytes, LEVELS);
-    let mut configs = [0u8; INPUTS];
-    shapes::fill(&mut configs, bytes, CONFIGS);
-    Wires { levels, configs }
-}
-
-fn settings_of(bytes: &[u8]) -> Settings
-    requires { length bytes.now ≡ size settings_shape }
+fn settings_of(bytes: &[u8; SETTINGS]) -> Settings
     ensures { Stands settings_shape (settings_parts result) bytes.now 0 }
 {
-    let shown = shown_of(bytes);
-    let cursor = cursor_of(bytes);
-    let dials = dials_of(bytes);
-    let masks = masks_of(bytes);
-    let wires = wires_of(bytes);
     Settings {
-        shown,
-        cursor,
-        dials,
-        masks,
-        wires,
+        shown: Shown {
+            text: *part(bytes, TEXT),
+            glyphs: *part(bytes, GLYPHS),
+        },
+        cursor: cursor_of(bytes),
+        dials: dials_of(bytes),
+        masks: masks_of(bytes),
+        wires: Wires {
+            levels: *part(bytes, LEVELS),
+            configs: *part(bytes, CONFIGS),
+        },
     }
 }
 
-// The settings that stand from a place on.
-fn settings_at(state: &[u8], place: usize) -> Settings
-    requires { place + size settings_shape ≤ length state.now }
-    ensures { Stands settings_shape (settings_parts result) state.now place }
-{
-    let end = place + SETTINGS;
-    settings_of(&state[place..end])
-}
-
-fn keys_of(state: &[u8]) -> Keys
-    requires { length state.now ≡ state_size }
+// Kept: `keys_of`, `pins_of` and `dials_of` stay apart, since one function for three bytes would lose the fields' names.
+fn keys_of(state: &[u8; SIZE]) -> Keys
     ensures { Stands bits_shape (keys_parts result) state.now keys_place }
 {
     Keys {
@@ -112,8 +87,7 @@ fn keys_of(state: &[u8]) -> Keys
     }
 }
 
-fn pins_of(state: &[u8]) -> Pins
-    requires { length state.now ≡ state_size }
+fn pins_of(state: &[u8; SIZE]) -> Pins
     ensures { Stands bits_shape (pins_parts result) state.now pins_place }
 {
     Pins {
@@ -123,25 +97,16 @@ fn pins_of(state: &[u8]) -> Pins
     }
 }
 
-fn body_of(state: &[u8]) -> Body
-    requires { length state.now ≡ state_size }
+fn body_of(state: &[u8; SIZE]) -> Body
     ensures { Stands body_shape (body_parts result) state.now body_place }
 {
-    let mut flash = [0u8; FLASH_BYTES];
-    shapes::fill(&mut flash, state, FLASH);
-    let mut sets = [0u8; CODES];
-    shapes::fill(&mut sets, state, SETS);
-    let keys = keys_of(state);
-    let pins = pins_of(state);
-    let live = settings_at(state, LIVE);
-    let boot = settings_at(state, BOOT);
     Body {
-        live,
-        boot,
-        keys,
-        pins,
-        flash,
-        sets,
+        live: settings_of(part(state, LIVE)),
+        boot: settings_of(part(state, BOOT)),
+        keys: keys_of(state),
+        pins: pins_of(state),
+        flash: *part(state, FLASH),
+        sets: *part(state, SETS),
     }
 }
 
@@ -149,57 +114,40 @@ fn body_of(state: &[u8]) -> Body
 pub fn read_body(state: &[u8]) -> Body
     ensures { ReadsBody state.now result }
 {
-    if state.len() != SIZE {
-        let panel = panel::powered_on();
-        return panel.body;
+    match state.as_array() {
+        Some(state) => body_of(state),
+        None => panel::powered_on().body,
     }
-    body_of(state)
 }
 
-fn settings_in_range(bytes: &[u8]) -> bool
-    requires { length bytes.now ≡ size settings_shape }
+fn settings_in_range(bytes: &[u8; SETTINGS]) -> bool
     ensures { result ≡ settings_in_range (settings_from (value settings_shape bytes.now 0)) }
 {
-    let cursor = cursor_of(bytes);
-    let dials = dials_of(bytes);
-    let masks = masks_of(bytes);
     ranges::parts_in_range(
         &bytes[GLYPHS..COLUMN],
-        cursor,
-        dials,
-        masks,
+        cursor_of(bytes),
+        dials_of(bytes),
+        masks_of(bytes),
         &bytes[LEVELS..CONFIGS],
         &bytes[CONFIGS..SETTINGS],
     )
 }
 
-fn range_at(state: &[u8], place: usize) -> bool
-    requires { place + size settings_shape ≤ length state.now }
-    ensures { result ≡ settings_in_range (settings_from (value settings_shape state.now place)) }
-{
-    let end = place + SETTINGS;
-    settings_in_range(&state[place..end])
-}
-
 // Whether the sets are those of the live text.
-fn sets_in_range(state: &[u8]) -> bool
-    requires { length state.now ≡ state_size }
+fn sets_in_range(state: &[u8; SIZE]) -> bool
     ensures { result ≡ sets_in_range (panel_of state.now).body }
 {
     sets::right(&state[LIVE_TEXT..LIVE_GLYPHS], &state[SETS..SIZE])
 }
 
 // Whether the state is in its ranges, tested on the bytes where they stand.
-fn ranges_of(state: &[u8]) -> bool
-    requires { length state.now ≡ state_size }
+fn ranges_of(state: &[u8; SIZE]) -> bool
     ensures { result ≡ in_ranges (panel_of state.now) }
 {
     let count = state[COUNT] <= 25;
-    let keys = keys_of(state);
-    let pins = pins_of(state);
-    let inputs = ranges::inputs_in_range(keys, pins);
-    let live = range_at(state, LIVE);
-    let boot = range_at(state, BOOT);
+    let inputs = ranges::inputs_in_range(keys_of(state), pins_of(state));
+    let live = settings_in_range(part(state, LIVE));
+    let boot = settings_in_range(part(state, BOOT));
     let sets = sets_in_range(state);
     count & live & boot & inputs & sets
 }
@@ -208,8 +156,8 @@ fn ranges_of(state: &[u8]) -> bool
 pub fn in_ranges(state: &[u8]) -> bool
     ensures { RangesState state.now result }
 {
-    if state.len() != SIZE {
-        return false;
+    match state.as_array() {
+        Some(state) => ranges_of(state),
+        None => false,
     }
-    ranges_of(state)
 }

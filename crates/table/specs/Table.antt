@@ -1,5 +1,5 @@
 -- Document 01's table of the commands, row by row, with its columns code, length and data allowed.
-use Rattle.std.specs.Prelude.{ℕ, ◌%◌, ◌≡◌, Bool, true, false, not, ◌&&◌, List, [], ◌∷◌}
+use Rattle.std.specs.Prelude.{ℕ, ◌%◌, ◌≡◌, Bool, not, ◌&&◌, List, [], ◌∷◌, Option, Some, None}
 use Rattle.lists.specs.Tests.{when◌then◌else◌, ◌<?◌, ◌=?◌}
 use Rattle.table.specs.declared.Row.{Row}
 use Rattle.table.specs.declared.Rule.{Rule}
@@ -31,21 +31,18 @@ table =
     ∷ row 35 1 1 (UpTo 12)
     ∷ []
 
-abbrev pub unknown : Row
-unknown = record { known = false; shortest = 0; longest = 0; rule = Free }
-
 -- the row of a code, or none
-unfoldable pub look_up : ℕ → List TableRow → Row
-look_up code [] = unknown
+unfoldable pub look_up : ℕ → List TableRow → Option Row
+look_up code [] = None
 look_up code (row c shortest longest rule ∷ rows) =
-    when code =? c then record { known = true; shortest = shortest; longest = longest; rule = rule } else look_up code rows
+    when code =? c then Some (record { shortest = shortest; longest = longest; rule = rule }) else look_up code rows
 
 -- "0 to 15 with its low three bits not 6"
 unfoldable pub config_allowed : ℕ → Bool
 config_allowed config = (config <? 16) && not (config % 8 =? 6)
 
 -- what `look` promises
-abbrev pub Looks : ℕ → Row → Type 0
+abbrev pub Looks : ℕ → Option Row → Type 0
 Looks code r = r ≡ look_up code table
 
 -- what `config_allowed` promises

@@ -1,7 +1,7 @@
 // The table of the commands: which lengths and which data each allows.
 #![tactic(auto)]
 
-ghost use Rattle.std.specs.Prelude.{◌≡◌, true};
+ghost use Rattle.std.specs.Prelude.{◌≡◌};
 ghost use Rattle.table.specs.Table.{Looks, Allows};
 
 // The column "data allowed". Free: any bytes. UpTo(n): each byte 0 to n. Glyph: an index of a glyph, then rows. Address: an
@@ -17,28 +17,28 @@ pub enum Rule {
     Pin,
 }
 
-// A row of the table; `known` is false for a code that has none.
+// A row of the table, beside its code.
 #[derive(Clone, Copy)]
 pub struct Row {
-    pub known: bool,
     pub shortest: usize,
     pub longest: usize,
     pub rule: Rule,
 }
 
-fn of(shortest: usize, longest: usize, rule: Rule) -> Row
-    ensures { result ≡ record { known = true; shortest = shortest; longest = longest; rule = rule } }
+fn of(shortest: usize, longest: usize, rule: Rule) -> Option<Row>
+    ensures { result ≡ Some (record { shortest = shortest; longest = longest; rule = rule }) }
 {
-    Row {
-        known: true,
+    Some(Row {
         shortest,
         longest,
         rule,
-    }
+    })
 }
 
-// The row of a command's code.
-pub fn look(code: u8) -> Row
+// The row of a command's code, or none.
+// Kept: the codes are the paper's own numbers, row by row as in its table, and any byte may come (`look_up`).
+#[tactic(auto, using(lists::proofs::Laws::when_true, lists::proofs::Laws::when_false), unfolding(crate::specs::Table::look_up))]
+pub fn look(code: u8) -> Option<Row>
     ensures { Looks code result }
 {
     match code {
@@ -60,18 +60,14 @@ pub fn look(code: u8) -> Row
         31 => of(3, 22, Rule::Place),
         34 => of(2, 3, Rule::Pin),
         35 => of(1, 1, Rule::UpTo(12)),
-        _ => Row {
-            known: false,
-            shortest: 0,
-            longest: 0,
-            rule: Rule::Free,
-        },
+        _ => None,
     }
 }
 
 // Whether a pin can have a config: 0 to 15 with its low three bits not 6.
+#[tactic(auto, unfolding(crate::specs::Table::config_allowed))]
 pub fn config_allowed(config: u8) -> bool
     ensures { Allows config result }
 {
-    (config < 16) & (config % 8 != 6)
+    config < 16 && config % 8 != 6
 }

@@ -1,8 +1,8 @@
 // What is added up from call to call, in sums that stop at the largest number.
 #![tactic(auto)]
 
-ghost use Rattle.std.specs.Prelude.{◌≡◌, ◌-◌};
-ghost use Rattle.tally.specs.Sums.{sum_of, offset_of, packets_by, SumsCall};
+ghost use Rattle.std.specs.Prelude.{◌≡◌};
+ghost use Rattle.tally.specs.Sums.{packets_by, SumsCall};
 
 // The number of the answer waiting, and the first that refuses a call.
 pub const WAITING: u8 = 1;
@@ -10,8 +10,9 @@ pub const WAITING: u8 = 1;
 pub const REFUSED: u8 = 10;
 
 // What a call says: the numbers of its answer, its counts, its reply's length and how many cells it lists.
-#[derive(Clone, Copy)]
+#[derive(Clone, Copy, Default)]
 pub struct CallTold {
+    // Kept: any number that the byte of C's 16 has, which `call_of` of saidreads reads.
     pub number: u8,
     pub command: u8,
     pub reason: u8,
@@ -25,7 +26,7 @@ pub struct CallTold {
 
 // How many packets were found; where the last one began, from the first byte of the input; the bytes taken, dropped and run
 // through the checksum.
-#[derive(Clone, Copy)]
+#[derive(Clone, Copy, Default)]
 pub struct Sums {
     pub events: u64,
     pub offset: u64,
@@ -34,48 +35,23 @@ pub struct Sums {
     pub checked: u64,
 }
 
-// The sum, or the largest number where it is above that.
-fn sum(a: u64, b: u64) -> u64
-    ensures { result ≡ sum_of a b }
-{
-    if a <= u64::MAX - b { a + b } else { u64::MAX }
-}
-
-fn less(a: u64, b: u64) -> u64
-    ensures { result ≡ a - b }
-{
-    if b <= a { a - b } else { 0 }
-}
-
-// Where a call's packet begins: at the first byte that was still held, and then what the call dropped before it.
-fn offset(taken: u64, held: u64, dropped: u64) -> u64
-    ensures { result ≡ offset_of taken held dropped }
-{
-    sum(less(taken, held), dropped)
-}
-
 // How many packets an answer of that number is of.
 fn packets(number: u8) -> u64
     ensures { result ≡ packets_by number }
 {
-    if (WAITING < number) & (number < REFUSED) {
-        1
-    } else {
-        0
-    }
+    u64::from((WAITING < number) & (number < REFUSED))
 }
 
-// The sums with a call more, before which so many bytes were held.
+// The sums with a call more, before which so many bytes were held. A packet begins at the first byte that was still held, and
+// then behind what the call dropped before it.
 pub fn with_call(s: Sums, held: u64, c: CallTold) -> Sums
     ensures { SumsCall s held c result }
 {
-    let more = packets(c.number);
-    let begins = offset(s.taken, held, c.dropped);
     Sums {
-        events: sum(s.events, more),
-        offset: begins,
-        taken: sum(s.taken, c.taken),
-        dropped: sum(s.dropped, c.dropped),
-        checked: sum(s.checked, c.checked),
+        events: s.events.saturating_add(packets(c.number)),
+        offset: s.taken.saturating_sub(held).saturating_add(c.dropped),
+        taken: s.taken.saturating_add(c.taken),
+        dropped: s.dropped.saturating_add(c.dropped),
+        checked: s.checked.saturating_add(c.checked),
     }
 }

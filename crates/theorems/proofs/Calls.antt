@@ -6,8 +6,9 @@ use mathlib.Core.Logic.{◌≢◌, ◌↔◌}
 use mathlib.Core.Bool.{Bool, true, false}
 use mathlib.Core.List.{List, []}
 use native.Mathlib.Omega.{arith}
-use borrow.Author.Tests.{eqb-true, ne_eqb}
+use borrow.Author.Tests.{eqb-true}
 use lib.ListN.{length, get_or}
+use Rattle.std.specs.Prelude.{Option, Some, None}
 use Rattle.lists.specs.Tests.{when◌then◌else◌, ◌=?◌}
 use Rattle.lists.specs.Runs.{front}
 use Rattle.lists.proofs.Laws.{when_true, when_false}
@@ -17,11 +18,13 @@ use Rattle.packets.proofs.Bytes.{packet_length_lem}
 use Rattle.packets.proofs.Composing.{fitting}
 use Rattle.framing.proofs.Theorems as framing
 use Rattle.verdict.specs.declared.Reason.{Reason}
+use Rattle.verdict.specs.Verdict.{reason_number}
 use Rattle.panel.specs.declared.Line.{Line}
 use Rattle.panel.specs.declared.Body.{Body}
 use Rattle.panel.specs.declared.Panel.{Panel}
 use Rattle.panel.specs.State.{line_holding}
 use Rattle.filing.specs.declared.Record.{Record}
+use Rattle.filing.specs.declared.Refusal.{Refusal}
 use Rattle.filing.specs.Filing.{Files, filed, filed_if}
 use Rattle.picture.specs.Draw.{cell_drawn, place_of}
 use Rattle.lists.specs.Rising.{ListedIn}
@@ -31,8 +34,7 @@ use Rattle.answers.specs.declared.Check.{Check}
 use Rattle.answers.specs.declared.Answer.{Answer}
 use Rattle.answers.specs.declared.Answer.TheVariants.{Waiting, Stray, Done, Refused, CallRefused}
 use Rattle.answers.specs.declared.Said.{Said}
-use Rattle.answers.specs.Answer.{check_number, numbers_of, is_done, filing_of, refused_call, with_unfiled}
-use Rattle.answers.proofs.Checks.{refused_from_ten}
+use Rattle.answers.specs.Answer.{numbers_of, is_done, filing_of, refused_call, with_unfiled}
 use Rattle.listen.specs.declared.Heard.{Heard}
 use Rattle.listen.specs.Reply.{error_type, refused_length, refused_reply}
 use Rattle.listen.specs.Listen.{answer_in, heard_of, heard_reply}
@@ -40,7 +42,7 @@ use Rattle.perform.specs.Commands.{carried}
 use Rattle.perform.specs.Perform.{shown_by, reply_length, reply_written}
 use Rattle.linecall.specs.Line.{Lent, line_heard, line_done, body_after, altered, said_with, line_said, line_picture, line_list, line_reply, files_after, LineCall}
 use Rattle.lists.proofs.Fronts.{front_behind, front_listed, front_rising}
-use Rattle.theorems.proofs.Outcomes.{scan_of, reply_heard, Outcome, turned_away, waits, finds, strays, does, refuses, outcome}
+use Rattle.theorems.proofs.Outcomes.{scan_of, scan_packet, reply_heard, Outcome, turned_away, waits, finds, strays, does, refuses, outcome}
 
 -- the line's part after a piece is heard
 abbrev pub heard_line : Panel → Lent → Line
@@ -53,7 +55,7 @@ quietly p l a reply = record { panel = record { line = heard_line p l; body = p.
 -- what a call says that carries a command out
 abbrev told : Panel → Lent → Answer → Said
 told p l a =
-    let c = carried p.body (scan_of p l).packet in
+    let c = carried p.body (scan_packet p l) in
     record {
       panel = record { line = heard_line p l; body = c.body };
       answer = a;
@@ -90,7 +92,7 @@ module _ (p : Panel) (l : Lent) where
 
   -- a heard piece whose answer is not done
   module _ {a : Answer} (h : line_heard p l ≡ heard_of p.line (scan_of p l) l.reply) (g : reply_heard p l ≡ heard_reply (scan_of p l) l.reply)
-      (e : answer_in (scan_of p l).found (scan_of p l).packet ≡ a) (n : is_done a ≡ false) where
+      (e : answer_in (scan_of p l).packet ≡ a) (n : is_done a ≡ false) where
     quiet_left : Left
     quiet_left = left_alone (ap (λ (x : Heard). is_done x.answer) h ∙ ap is_done e ∙ n)
 
@@ -127,19 +129,23 @@ either_behind i out true m n a b f g h = f h
 either_behind i out false m n a b f g h = g h
 
 -- a call that says this files nothing unless a packet is refused
-not_filed : (s : Said) (register : List Record) → (filing_of s.answer).refused ≡ false → files_after s register ≡ record { register = register; unfiled = s.panel.line.unfiled }
+not_filed : (s : Said) (register : List Record) → filing_of s.answer ≡ None → files_after s register ≡ record { register = register; unfiled = s.panel.line.unfiled }
 unfolding filed_if
-not_filed s register e = when_false _ _ _ e
+not_filed s register e = ap (λ (k : Option Refusal). filed_if k (record { register = register; unfiled = s.panel.line.unfiled })) e
 
-is_filed : (s : Said) (register : List Record) → (filing_of s.answer).refused ≡ true → files_after s register ≡ filed (filing_of s.answer).key (record { register = register; unfiled = s.panel.line.unfiled })
+is_filed : (k : Refusal) (s : Said) (register : List Record) → filing_of s.answer ≡ Some k → files_after s register ≡ filed k (record { register = register; unfiled = s.panel.line.unfiled })
 unfolding filed_if
-is_filed s register e = when_true _ _ _ e
+is_filed k s register e = ap (λ (x : Option Refusal). filed_if x (record { register = register; unfiled = s.panel.line.unfiled })) e
+
+-- what a refused packet is filed under
+abbrev pub key_of : ℕ → Reason → ℕ → Refusal
+key_of command reason place = record { command = command; reason = reason_number reason; place = place }
 
 module _ (p : Panel) (l : Lent) (register : List Record) (r : Said) (picture' list' reply' : List ℕ) (register' : List Record) (called : LineCall p l register r picture' list' reply' register') where
   answer_is : r.answer ≡ (line_heard p l).answer
   answer_is = ap (λ (s : Said). s.answer) called.0
 
-  said_as : {s : Said} → line_said p l ≡ s → (filing_of s.answer).refused ≡ false → (r ≡ s) × (register' ≡ register)
+  said_as : {s : Said} → line_said p l ≡ s → filing_of s.answer ≡ None → (r ≡ s) × (register' ≡ register)
   said_as {s} e n =
       let f : files_after (line_said p l) register ≡ record { register = register; unfiled = s.panel.line.unfiled } = ap (λ (x : Said). files_after x register) e ∙ not_filed s register n in
       (called.0 ∙ (λ i. with_unfiled (e i) (f i).unfiled), called.4 ∙ (λ i. (f i).register))
@@ -156,15 +162,12 @@ module _ (p : Panel) (l : Lent) (register : List Record) (r : Said) (picture' li
   unfolding numbers_of is_done
   call_refused_says c a = go (sym answer_is ∙ a) (outcome p l)
     where
-      not_four : (d : Check) → (check_number d =? 4) ≡ false
-      not_four d = ne_eqb (check_number d) 4 (λ e. absurd (omega (arith, refused_from_ten d)))
-
       go : {b : Answer} → b ≡ CallRefused c → Outcome p l b → (r ≡ refused_call p c) × Untouched
       go e (turned_away {c = d} f h g) =
           let same : d ≡ c = cc in
           let k = left_alone p l (ap (λ (x : Heard). is_done x.answer) h) in
           let s : line_said p l ≡ refused_call p d = λ i. said_with (h i) (record { body = k.body i; reply = (k.reply ∙ ap (λ (x : Heard). x.reply) h) i; listed = length (k.none i) }) in
-          let u = said_as s (not_four d) in
+          let u = said_as s refl in
           (u.0 ∙ ap (refused_call p) same, record { picture = called.1 ∙ k.picture; list = called.2 ∙ k.list; reply = called.3 ∙ k.replied ∙ g; records = u.1 })
       go e (waits q h g f) = let z : ◌≡◌ {A = ℕ} 0 1 = cc in absurd (omega arith)
       go e (finds q h g f b (strays k)) = let z : ◌≡◌ {A = ℕ} 0 1 = cc in absurd (omega arith)
@@ -191,7 +194,7 @@ module _ (p : Panel) (l : Lent) (register : List Record) (r : Said) (picture' li
       go : {b : Answer} → b ≡ Waiting → Outcome p l b → (r ≡ quietly p l Waiting 0) × Untouched
       go e (turned_away f h g) = let z : ◌≡◌ {A = ℕ} 0 1 = cc in absurd (omega arith)
       go e (waits q h g f) =
-          let w = when_false _ _ _ f in
+          let w = ap answer_in f in
           let k = quiet_left p l h g w refl in
           let u = said_as (quiet_said p l h g w refl) refl in
           (u.0, record { picture = called.1 ∙ k.picture; list = called.2 ∙ k.list; reply = called.3 ∙ quiet_reply p l h g w refl; records = u.1 })
@@ -208,7 +211,7 @@ module _ (p : Panel) (l : Lent) (register : List Record) (r : Said) (picture' li
       go e (turned_away f h g) = let z : ◌≡◌ {A = ℕ} 0 1 = cc in absurd (omega arith)
       go e (waits q h g f) = let z : ◌≡◌ {A = ℕ} 0 1 = cc in absurd (omega arith)
       go e (finds q h g f b (strays k)) =
-          let w = when_true _ _ _ f ∙ sym b ∙ e in
+          let w = ap answer_in f ∙ sym b ∙ e in
           let d = quiet_left p l h g w refl in
           let u = said_as (quiet_said p l h g w refl) refl in
           (u.0, record { picture = called.1 ∙ d.picture; list = called.2 ∙ d.list; reply = called.3 ∙ quiet_reply p l h g w refl; records = u.1 })
@@ -217,7 +220,7 @@ module _ (p : Panel) (l : Lent) (register : List Record) (r : Said) (picture' li
 
   -- what is filed of a refusal
   abbrev pub filed_for : ℕ → Reason → ℕ → Files
-  filed_for command reason place = filed (filing_of (Refused command reason place)).key (record { register = register; unfiled = p.line.unfiled })
+  filed_for command reason place = filed (key_of command reason place) (record { register = register; unfiled = p.line.unfiled })
 
   -- 4: A refused packet changes of the panel the held bytes and the unfiled number only. Its error reply is written, type 192 +
   -- command and length 0; it is filed under its command, reason and place; nothing is listed or painted.
@@ -242,13 +245,13 @@ module _ (p : Panel) (l : Lent) (register : List Record) (r : Said) (picture' li
       go e (finds q h g f b (strays k)) = let z : ◌≡◌ {A = ℕ} 0 1 = cc in absurd (omega arith)
       go e (finds q h g f b (does k v)) = let z : ◌≡◌ {A = ℕ} 0 1 = cc in absurd (omega arith)
       go e (finds q h g f b (refuses k v)) =
-          let w = when_true _ _ _ f ∙ sym b ∙ e in
+          let w = ap answer_in f ∙ sym b ∙ e in
           let d = quiet_left p l h g w refl in
           let t = fitting l.reply [] (eqb-true _ _ q.1.1.1.1.1.0) (omega arith) in
-          let same : (scan_of p l).packet.kind ≡ command = cc in
+          let same : (scan_packet p l).kind ≡ command = cc in
           let six : command % 64 ≡ command = omega arith in
           let s : line_said p l ≡ quietly p l (Refused command reason place) 4 = quiet_said p l h g w refl ∙ ap (quietly p l (Refused command reason place)) (when_true _ _ _ t) in
-          let x = ap (λ (y : Said). files_after y register) s ∙ is_filed (quietly p l (Refused command reason place) 4) register refl in (
+          let x = ap (λ (y : Said). files_after y register) s ∙ is_filed (key_of command reason place) (quietly p l (Refused command reason place) 4) register refl in (
             called.0 ∙ (λ i. with_unfiled (s i) (x i).unfiled),
             called.1 ∙ d.picture,
             called.2 ∙ d.list,
@@ -261,7 +264,7 @@ module _ (p : Panel) (l : Lent) (register : List Record) (r : Said) (picture' li
   pub done_says : (command : ℕ) → r.answer ≡ Done command → (r ≡ performing p l command)
       × (picture' ≡ painted (shown_by p.body) (shown_by r.panel.body) l.font l.picture)
       × (list' ≡ front (changed (shown_by p.body) (shown_by r.panel.body) l.font) l.list)
-      × (reply' ≡ reply_written (carried p.body (scan_of p l).packet).reply l.reply)
+      × (reply' ≡ reply_written (carried p.body (scan_packet p l)).reply l.reply)
       × (register' ≡ register)
   unfolding numbers_of is_done answer_in when◌then◌else◌
   done_says command a = go (sym answer_is ∙ a) (outcome p l)
@@ -270,7 +273,7 @@ module _ (p : Panel) (l : Lent) (register : List Record) (r : Said) (picture' li
       Says =
           (r ≡ performing p l command) × (picture' ≡ painted (shown_by p.body) (shown_by r.panel.body) l.font l.picture)
           × (list' ≡ front (changed (shown_by p.body) (shown_by r.panel.body) l.font) l.list)
-          × (reply' ≡ reply_written (carried p.body (scan_of p l).packet).reply l.reply)
+          × (reply' ≡ reply_written (carried p.body (scan_packet p l)).reply l.reply)
           × (register' ≡ register)
 
       go : {b : Answer} → b ≡ Done command → Outcome p l b → Says
@@ -279,11 +282,11 @@ module _ (p : Panel) (l : Lent) (register : List Record) (r : Said) (picture' li
       go e (finds q h g f b (strays k)) = let z : ◌≡◌ {A = ℕ} 0 1 = cc in absurd (omega arith)
       go e (finds q h g f b (refuses k v)) = let z : ◌≡◌ {A = ℕ} 0 1 = cc in absurd (omega arith)
       go e (finds q h g f b (does k v)) =
-          let w : answer_in (scan_of p l).found (scan_of p l).packet ≡ Done command = when_true _ _ _ f ∙ sym b ∙ e in
+          let w : answer_in (scan_of p l).packet ≡ Done command = ap answer_in f ∙ sym b ∙ e in
           let y : line_done p l ≡ true = ap (λ (x : Heard). is_done x.answer) h ∙ ap is_done w in
-          let c : body_after p l ≡ (carried p.body (scan_of p l).packet).body =
+          let c : body_after p l ≡ (carried p.body (scan_packet p l)).body =
           when_true (line_done p l) (carried p.body (line_heard p l).packet).body p.body y ∙ ap (λ (x : Heard). (carried p.body x.packet).body) h in
-          let n : (line_said p l).reply ≡ reply_length (carried p.body (scan_of p l).packet).reply l.reply =
+          let n : (line_said p l).reply ≡ reply_length (carried p.body (scan_packet p l)).reply l.reply =
           when_true (line_done p l) _ _ y ∙ ap (λ (x : Heard). reply_length (carried p.body x.packet).reply l.reply) h in
           let s : line_said p l ≡ performing p l command =
           (λ i. said_with (h i) (record { body = c i; reply = n i; listed = length (changed (shown_by p.body) (shown_by (c i)) l.font) }))
@@ -372,5 +375,5 @@ module _ (p : Panel) (l : Lent) (register : List Record) (r : Said) (picture' li
     where
       go : {a : Answer} → Outcome p l a → (line_heard p l).reply ≤ i → get_or (reply_heard p l) i 0 ≡ get_or l.reply i 0
       go (turned_away f h g) n = rw g refl
-      go (waits q h g f) n = rw g (error_behind (answer_in (scan_of p l).found (scan_of p l).packet) l.reply i (rw h at n))
-      go (finds q h g f b k) n = rw g (error_behind (answer_in (scan_of p l).found (scan_of p l).packet) l.reply i (rw h at n))
+      go (waits q h g f) n = rw g (error_behind (answer_in (scan_of p l).packet) l.reply i (rw h at n))
+      go (finds q h g f b k) n = rw g (error_behind (answer_in (scan_of p l).packet) l.reply i (rw h at n))

@@ -6,14 +6,14 @@ use mathlib.Core.List.{List}
 use native.Mathlib.Omega.{arith}
 use lib.ListN.{length, get_or}
 use borrow.Author.Tests.{eqb-true}
+use Rattle.std.specs.Prelude.{Ok}
 use Rattle.lists.specs.Tests.{when◌then◌else◌, ◌≤?◌, ◌=?◌, all_at_most}
 use Rattle.lists.proofs.Laws.{when_either}
 use Rattle.glyphs.specs.Glyphs.{eight_from}
 use Rattle.glyphs.proofs.Every.{Every, Passes, glyph_set_passes, all_set}
 use Rattle.bits.proofs.Laws.{without_bit_at_most}
-use Rattle.table.specs.Table.{table, look_up, config_allowed}
-use Rattle.table.specs.declared.Rule.TheVariants.{Glyph}
-use Rattle.verdict.specs.declared.Verdict.TheVariants.{Allowed}
+use Rattle.table.specs.Table.{look_up, config_allowed}
+use Rattle.table.specs.declared.Rule.TheVariants.{UpTo, Glyph, Place, Pin}
 use Rattle.verdict.specs.Verdict.{in_range, verdict_of}
 use Rattle.panel.specs.declared.Shown.{Shown}
 use Rattle.panel.specs.declared.Cursor.{Cursor}
@@ -81,8 +81,8 @@ module _ (s : Settings) (e : settings_in_range s ≡ true) where
 
   -- the settings after each command that changes them, by its row of the table
   module _ (d : List ℕ) where
-    glyph_in_range : Sound (look_up 9 table) d → settings_in_range (with_shown s (glyph_set s.shown d)) ≡ true
-    unfolding look_up when◌then◌else◌ in_range
+    glyph_in_range : Sound 9 Glyph d → settings_in_range (with_shown s (glyph_set s.shown d)) ≡ true
+    unfolding when◌then◌else◌ in_range
     glyph_in_range h =
         let n : 9 ≤ length d = h.enough in
         let row : (i : ℕ) → i < 9 → in_range Glyph d i ≡ true = λ i l. h.each i (omega arith) in
@@ -92,38 +92,38 @@ module _ (s : Settings) (e : settings_in_range s ≡ true) where
         ) in
         with_shown_lem (glyph_set s.shown d) (glyph_set_passes (λ x. x ≤? 63) refl s.shown.glyphs (get_or d 0 0) (eight_from d 1) parts.glyphs rows)
 
-    cursor_in_range_lem : Sound (look_up 11 table) d → settings_in_range (with_cursor s (cursor_at d)) ≡ true
-    unfolding look_up when◌then◌else◌ in_range cursor_in_range
+    cursor_in_range_lem : Sound 2 Place d → settings_in_range (with_cursor s (cursor_at d)) ≡ true
+    unfolding when◌then◌else◌ in_range cursor_in_range
     cursor_in_range_lem h =
         let n : 2 ≤ length d = h.enough in
         with_cursor_lem _ (rw (h.each 0 (omega arith), h.each 1 (omega arith)))
 
-    style_in_range : Sound (look_up 12 table) d → settings_in_range (with_dials s (with_style s.dials (get_or d 0 0))) ≡ true
-    unfolding look_up when◌then◌else◌ in_range dials_in_range
+    style_in_range : Sound 1 (UpTo 4) d → settings_in_range (with_dials s (with_style s.dials (get_or d 0 0))) ≡ true
+    unfolding when◌then◌else◌ in_range dials_in_range
     style_in_range h =
         let n : 1 ≤ length d = h.enough in
         with_dials_lem _ (rw (h.each 0 (omega arith)) (kept true _ 0 parts.dials))
 
-    contrast_in_range : Sound (look_up 13 table) d → settings_in_range (with_dials s (with_contrast s.dials (get_or d 0 0))) ≡ true
-    unfolding look_up when◌then◌else◌ in_range dials_in_range
+    contrast_in_range : Sound 1 (UpTo 254) d → settings_in_range (with_dials s (with_contrast s.dials (get_or d 0 0))) ≡ true
+    unfolding when◌then◌else◌ in_range dials_in_range
     contrast_in_range h =
         let n : 1 ≤ length d = h.enough in
         with_dials_lem _ (rw (h.each 0 (omega arith)) (kept true _ 1 parts.dials))
 
-    backlight_in_range : Sound (look_up 14 table) d → settings_in_range (with_dials s (with_backlight s.dials (get_or d 0 0))) ≡ true
-    unfolding look_up when◌then◌else◌ in_range dials_in_range
+    backlight_in_range : Sound 1 (UpTo 100) d → settings_in_range (with_dials s (with_backlight s.dials (get_or d 0 0))) ≡ true
+    unfolding when◌then◌else◌ in_range dials_in_range
     backlight_in_range h =
         let n : 1 ≤ length d = h.enough in
         with_dials_lem _ (rw (h.each 0 (omega arith)) (kept true _ 2 parts.dials))
 
-    masks_in_range_lem : Sound (look_up 23 table) d → settings_in_range (with_masks s (masks_given d)) ≡ true
-    unfolding look_up when◌then◌else◌ in_range masks_in_range
+    masks_in_range_lem : Sound 2 (UpTo 63) d → settings_in_range (with_masks s (masks_given d)) ≡ true
+    unfolding when◌then◌else◌ in_range masks_in_range
     masks_in_range_lem h =
         let n : 2 ≤ length d = h.enough in
         with_masks_lem _ (rw (h.each 0 (omega arith), h.each 1 (omega arith)))
 
-    pin_in_range : Sound (look_up 34 table) d → settings_in_range (with_wires s (pin_set s.wires d)) ≡ true
-    unfolding look_up when◌then◌else◌ in_range
+    pin_in_range : Sound 2 Pin d → settings_in_range (with_wires s (pin_set s.wires d)) ≡ true
+    unfolding when◌then◌else◌ in_range
     pin_in_range h =
         let n : 2 ≤ length d = h.enough in
         with_wires_lem _ (all_set (λ x. x ≤? 100) s.wires.levels (get_or d 0 0) (get_or d 1 0) (h.each 1 (omega arith)) parts.levels)
@@ -132,17 +132,18 @@ module _ (s : Settings) (e : settings_in_range s ≡ true) where
         (λ _. parts.configs))
 
 -- each command's row
-module _ (code : ℕ) (d : List ℕ) (v : verdict_of code d ≡ Allowed) where
+module _ (code : ℕ) (d : List ℕ) (v : verdict_of code d ≡ Ok tt) where
   live_in_range : (s : Settings) → settings_in_range s ≡ true → settings_in_range (live_after code d s) ≡ true
+  unfolding look_up when◌then◌else◌
   live_in_range s h =
       live_rows code d (λ (x : Settings). settings_in_range x ≡ true) s
-      (λ e. glyph_in_range s h d (allowed code d v 9 e))
-      (λ e. cursor_in_range_lem s h d (allowed code d v 11 e))
-      (λ e. style_in_range s h d (allowed code d v 12 e))
-      (λ e. contrast_in_range s h d (allowed code d v 13 e))
-      (λ e. backlight_in_range s h d (allowed code d v 14 e))
-      (λ e. masks_in_range_lem s h d (allowed code d v 23 e))
-      (λ e. pin_in_range s h d (allowed code d v 34 e))
+      (λ e. glyph_in_range s h d (allowed code d v 9 e _ refl))
+      (λ e. cursor_in_range_lem s h d (allowed code d v 11 e _ refl))
+      (λ e. style_in_range s h d (allowed code d v 12 e _ refl))
+      (λ e. contrast_in_range s h d (allowed code d v 13 e _ refl))
+      (λ e. backlight_in_range s h d (allowed code d v 14 e _ refl))
+      (λ e. masks_in_range_lem s h d (allowed code d v 23 e _ refl))
+      (λ e. pin_in_range s h d (allowed code d v 34 e _ refl))
       h
 
   -- no text is changed by the commands that leave the sets as they are

@@ -1,10 +1,10 @@
 -- Each call leaves a panel that can be written as bytes and read again: its arrays keep their sizes, its numbers stay small.
 use Prim.Native.Nat.{ℕ, ◌<◌, ◌≤◌}
 use mathlib.Core.Path.{◌≡◌, refl, ◌∙◌, ap}
-use mathlib.Core.Bool.{Bool}
 use mathlib.Core.List.{List}
 use native.Mathlib.Omega.{arith}
 use lib.ListN.{length, take, replicate, length-set, length-map, length-take}
+use Rattle.std.specs.Prelude.{Option, Some, None}
 use Rattle.lists.specs.Tests.{◌=?◌}
 use Rattle.lists.proofs.Laws.{when_either, length-pasted, length_front}
 use Rattle.packets.specs.Hold.{held}
@@ -80,12 +80,11 @@ held_fits p l h =
     holding_fits p.line (scan_of p l).hold h (omega arith) (length_front k (replicate 25 0) n)
 
 -- the unfiled number stops at the largest of 32 bits
-filed_fits : (refuses : Bool) (k : Refusal) (f : Files) → f.unfiled < 4294967296 → (filed_if refuses k f).unfiled < 4294967296
+filed_fits : (k : Option Refusal) (f : Files) → f.unfiled < 4294967296 → (filed_if k f).unfiled < 4294967296
 unfolding filed_if filed filed_at filed_in
-filed_fits refuses k f u =
-    when_either Small refuses _ _
-    (λ _. when_either Small _ _ _ (λ _. when_either (λ (q : Filed). q.unfiled < 4294967296) _ _ _ (λ _. u) (λ _. omega arith)) (λ _. omega arith))
-    (λ _. u)
+filed_fits None f u = u
+filed_fits (Some k) f u =
+    when_either Small _ _ _ (λ _. when_either (λ (q : Filed). q.unfiled < 4294967296) _ _ _ (λ _. u) (λ _. omega arith)) (λ _. omega arith)
   where
     Small : Files → Type 0
     Small g = g.unfiled < 4294967296
@@ -97,9 +96,9 @@ line_fits p l register r picture' list' reply' register' called h =
     let b = after_body p l (λ (x : Body). Fits body_shape (body_parts x)) h.1 (λ u v. effect_fits _ _ p.body h.1) in
     let k = heard_line p l (λ (x : Line). Fits line_shape (line_parts x)) h.0 (held_fits p l h.0) in
     let f = line_files p l register r picture' list' reply' register' called in
-    let e : r.panel.line.unfiled ≡ (filed_if (filing_of r.answer).refused (filing_of r.answer).key (record { register = register; unfiled = p.line.unfiled })).unfiled = ap (λ (x : Files). x.unfiled) f in
+    let e : r.panel.line.unfiled ≡ (filed_if (filing_of r.answer) (record { register = register; unfiled = p.line.unfiled })).unfiled = ap (λ (x : Files). x.unfiled) f in
     let u : r.panel.line.unfiled < 4294967296 =
-    rw e (filed_fits (filing_of r.answer).refused (filing_of r.answer).key (record { register = register; unfiled = p.line.unfiled }) (unfiled_fits p.line h.0)) in
+    rw e (filed_fits (filing_of r.answer) (record { register = register; unfiled = p.line.unfiled }) (unfiled_fits p.line h.0)) in
     let v = rw called.0 at u in
     rw called.0 (with_unfiled_fits (line_heard p l).line _ k v, b)
 

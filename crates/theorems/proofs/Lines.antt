@@ -5,13 +5,13 @@ use mathlib.Core.Bool.{Bool, true, false}
 use mathlib.Core.List.{List}
 use native.Mathlib.Omega.{arith}
 use lib.ListN.{length}
+use Rattle.std.specs.Prelude.{Ok}
 use Rattle.lists.proofs.Laws.{when_true, when_false}
 use Rattle.packets.specs.declared.Packet.{Packet}
 use Rattle.packets.specs.Packet.{content_of}
 use Rattle.framing.proofs.Theorems as framing
 use Rattle.filing.specs.declared.Record.{Record}
 use Rattle.filing.specs.Filing.{filed_if}
-use Rattle.verdict.specs.declared.Verdict.TheVariants.{Allowed}
 use Rattle.verdict.specs.Verdict.{verdict_of}
 use Rattle.panel.specs.declared.Body.{Body}
 use Rattle.panel.specs.declared.Line.{Line}
@@ -27,11 +27,11 @@ use Rattle.listen.specs.Listen.{answer_in}
 use Rattle.perform.specs.Commands.{carried}
 use Rattle.linecall.specs.Line.{Lent, line_heard, body_after, line_said, files_after, LineCall}
 use Rattle.theorems.proofs.Effects.{BodyInRange, body_in_range, effect_stays_in_range}
-use Rattle.theorems.proofs.Outcomes.{scan_of, Outcome, turned_away, waits, finds, strays, does, refuses, outcome}
+use Rattle.theorems.proofs.Outcomes.{scan_of, scan_packet, Outcome, turned_away, waits, finds, strays, does, refuses, outcome}
 
 -- the body after a call: what holds of it as it came, and after a command that is carried out, holds of it
 module _ (p : Panel) (l : Lent) (P : Body → Type 0) (same : P p.body)
-    (done : let k = (scan_of p l).packet in k.kind < 64 → verdict_of k.kind (content_of k) ≡ Allowed → P (carried p.body k).body) where
+    (done : let k = scan_packet p l in k.kind < 64 → verdict_of k.kind (content_of k) ≡ Ok tt → P (carried p.body k).body) where
   pub after_body : P (body_after p l)
   unfolding is_done answer_in
   after_body = go (outcome p l)
@@ -41,12 +41,12 @@ module _ (p : Panel) (l : Lent) (P : Body → Type 0) (same : P p.body)
 
       go : {a : Answer} → Outcome p l a → P (body_after p l)
       go (turned_away f h g) = stays (ap (λ (x : Heard). is_done x.answer) h) refl
-      go (waits q h g f) = stays (ap (λ (x : Heard). is_done x.answer) h ∙ ap is_done (when_false _ _ _ f)) refl
-      go (finds q h g f b (strays k)) = stays (ap (λ (x : Heard). is_done x.answer) h ∙ ap is_done (when_true _ _ _ f ∙ sym b)) refl
-      go (finds q h g f b (refuses k v)) = stays (ap (λ (x : Heard). is_done x.answer) h ∙ ap is_done (when_true _ _ _ f ∙ sym b)) refl
+      go (waits q h g f) = stays (ap (λ (x : Heard). is_done x.answer) h ∙ ap is_done (ap answer_in f)) refl
+      go (finds q h g f b (strays k)) = stays (ap (λ (x : Heard). is_done x.answer) h ∙ ap is_done (ap answer_in f ∙ sym b)) refl
+      go (finds q h g f b (refuses k v)) = stays (ap (λ (x : Heard). is_done x.answer) h ∙ ap is_done (ap answer_in f ∙ sym b)) refl
       go (finds q h g f b (does k v)) =
-          let e : is_done (line_heard p l).answer ≡ true = ap (λ (x : Heard). is_done x.answer) h ∙ ap is_done (when_true _ _ _ f ∙ sym b) in
-          let c : body_after p l ≡ (carried p.body (scan_of p l).packet).body =
+          let e : is_done (line_heard p l).answer ≡ true = ap (λ (x : Heard). is_done x.answer) h ∙ ap is_done (ap answer_in f ∙ sym b) in
+          let c : body_after p l ≡ (carried p.body (scan_packet p l)).body =
           when_true (is_done (line_heard p l).answer) (carried p.body (line_heard p l).packet).body p.body e ∙ ap (λ (x : Heard). (carried p.body x.packet).body) h in
           rw c (done k v)
 
@@ -59,7 +59,7 @@ heard_line p l P same new = go (outcome p l)
     go (waits q h g f) = rw h new
     go (finds q h g f b k) = rw h new
 
-carried_in_range : (b : Body) (k : Packet) → k.kind < 64 → verdict_of k.kind (content_of k) ≡ Allowed → BodyInRange b → BodyInRange (carried b k).body
+carried_in_range : (b : Body) (k : Packet) → k.kind < 64 → verdict_of k.kind (content_of k) ≡ Ok tt → BodyInRange b → BodyInRange (carried b k).body
 unfolding carried
 carried_in_range b k h v i = let e : k.kind % 64 ≡ k.kind = omega arith in rw e (effect_stays_in_range k.kind (content_of k) v b i)
 
@@ -74,17 +74,17 @@ module _ (p : Panel) (l : Lent) where
     line_stays_in_range e n =
         let h = panel_parts_lem p e in
         let k = framing.held_at_most_25 p.line.hold l.piece (scan_of p l) refl n in
-        let b = after_body p l BodyInRange (body_in_range p e) (λ u v. carried_in_range p.body (scan_of p l).packet u v (body_in_range p e)) in
+        let b = after_body p l BodyInRange (body_in_range p e) (λ u v. carried_in_range p.body (scan_packet p l) u v (body_in_range p e)) in
         let c : (line_heard p l).line.hold.count ≤ 25 = heard_line p l (λ (x : Line). x.hold.count ≤ 25) h.count k in
         rw called.0 (panel_whole _ record { count = c; live = b.live; boot = b.boot; keys = b.keys; pins = b.pins; sets = b.sets })
 
     -- the register and the unfiled number after the call
     pub line_files : record { register = register'; unfiled = r.panel.line.unfiled }
-        ≡ filed_if (filing_of r.answer).refused (filing_of r.answer).key (record { register = register; unfiled = p.line.unfiled })
+        ≡ filed_if (filing_of r.answer) (record { register = register; unfiled = p.line.unfiled })
     line_files =
         let s = line_said p l in
         let a : r.answer ≡ s.answer = ap (λ (x : Said). x.answer) called.0 in
         let u : r.panel.line.unfiled ≡ (files_after s register).unfiled = ap (λ (x : Said). x.panel.line.unfiled) called.0 in
         (λ i. record { register = called.4 i; unfiled = u i })
-        ∙ ap (λ (x : ℕ). filed_if (filing_of s.answer).refused (filing_of s.answer).key (record { register = register; unfiled = x })) heard_unfiled
-        ∙ ap (λ (x : Answer). filed_if (filing_of x).refused (filing_of x).key (record { register = register; unfiled = p.line.unfiled })) (sym a)
+        ∙ ap (λ (x : ℕ). filed_if (filing_of s.answer) (record { register = register; unfiled = x })) heard_unfiled
+        ∙ ap (λ (x : Answer). filed_if (filing_of x) (record { register = register; unfiled = p.line.unfiled })) (sym a)

@@ -4,10 +4,11 @@ use mathlib.Core.Path.{◌≡◌, refl, sym, ◌∙◌, ap}
 use mathlib.Core.Bool.{Bool, true, false}
 use mathlib.Core.List.{List, []}
 use native.Mathlib.Omega.{arith}
-use borrow.Author.Tests.{eq-eqb, ne_eqb}
+use borrow.Author.Tests.{eq-eqb}
 use lib.ListN.{length, take, drop, replicate}
 use lib.Seq.{take_at}
-use Rattle.lists.specs.Tests.{when◌then◌else◌}
+use Rattle.std.specs.Prelude.{is_some}
+use Rattle.lists.specs.Tests.{when◌then◌else◌, ◌=?◌}
 use Rattle.lists.specs.Runs.{front}
 use Rattle.lists.proofs.Laws.{when_either, when_true, when_false}
 use Rattle.lists.proofs.Rising.{passing_short}
@@ -19,11 +20,11 @@ use Rattle.panel.specs.State.{powered_on, with_body, with_keys, with_pins}
 use Rattle.ranges.specs.Ranges.{in_ranges}
 use Rattle.ranges.proofs.InRange.{panel_parts_lem, panel_whole}
 use Rattle.answers.specs.declared.Check.{Check}
-use Rattle.answers.specs.declared.Answer.TheVariants.{Done, CallRefused}
+use Rattle.answers.specs.declared.Answer.TheVariants.{Done}
 use Rattle.answers.specs.declared.Said.{Said}
-use Rattle.answers.specs.Answer.{numbers_of, no_counts, refused_call}
+use Rattle.answers.specs.Answer.{numbers_of, filing_of, no_counts, refused_call}
 use Rattle.answers.specs.Checks.{Test, decided}
-use Rattle.answers.proofs.Checks.{refused_by, accepted_by, either_way, refused_from_ten, call_refused, call_unchanged}
+use Rattle.answers.proofs.Checks.{refused_by, accepted_by, either_way, call_refused, call_unchanged}
 use Rattle.events.specs.Keys.{key_event, mask_for, report_bytes, key_tests, reports}
 use Rattle.events.specs.Pins.{pin_event, pin_tests}
 use Rattle.events.proofs.Theorems.{key_stays_in_range, pin_stays_in_range}
@@ -32,6 +33,7 @@ use Rattle.symbols.proofs.Theorems.{cells_only_read}
 use Rattle.statebytes.specs.State.{panel_of, is_state, PanelFits, on_state}
 use Rattle.saidbytes.specs.Says.{SaidFits, number_of, bytes_said, no_state}
 use Rattle.linebytes.specs.Line.{state_after}
+use Rattle.theorems.proofs.Outcomes.{files_at_4}
 use Rattle.theorems.specs.Other.{Other, key, pin, cells, room_for, Answers, presses, moves, tells, AnswersBytes}
 use Rattle.theorems.specs.Run.{refused_in}
 use Rattle.theorems.specs.Story.{wrote}
@@ -199,8 +201,11 @@ module _ {c : Other} {p : Panel} {out : List ℕ} {r : Said} {out' : List ℕ} (
   unfolding refused_in
   none_refused =
       either_way (tests c p out)
-      (λ d f. let q = (by_row m).0 ∙ refused_by f _ _ in rw q (when_false _ _ _ (ne_eqb (numbers_of (CallRefused d)).number 4 (λ e. absurd (omega (arith, refused_from_ten d))))))
-      (λ q. let z = (by_row m).0 ∙ accepted_by _ q _ _ in rw (z, is_three c p) (when_false _ _ _ refl))
+      (λ d f. let q = (by_row m).0 ∙ refused_by f _ _ in rw q (when_false _ _ _ refl))
+      (λ q.
+      let z = (by_row m).0 ∙ accepted_by _ q _ _ in
+      let t : is_some (filing_of r.answer) ≡ false = files_at_4 r.answer ∙ ap (λ (s : Said). (numbers_of s.answer).number =? 4) z ∙ ap (λ (n : ℕ). n =? 4) (is_three c p) in
+      when_false _ _ _ t)
 
   -- a call refused by number leaves the panel and the buffer as they came, and counts nothing
   pub refused_other_changes_nothing : 10 ≤ (numbers_of r.answer).number → (d : Check) × ((r ≡ refused_call p d) × (out' ≡ out))

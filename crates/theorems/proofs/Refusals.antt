@@ -6,6 +6,7 @@ use mathlib.Core.List.{List, []}
 use native.Mathlib.Omega.{arith}
 use borrow.Author.Tests.{eq-eqb}
 use lib.ListN.{length, get_or}
+use Rattle.std.specs.Prelude.{is_some}
 use Rattle.lists.specs.Runs.{front}
 use Rattle.lists.proofs.Laws.{when_true}
 use Rattle.packets.specs.Packet.{packet_bytes}
@@ -105,16 +106,16 @@ module _ {k : Kept} {w : World} (s : StandsFor k w) (font : List ℕ) {piece lis
       let b = standing.said_is s font m in
       let u = calls.refused_changes_only w.panel (standing.o s font m) (records_lent k.faults) r _ _ _ _ (standing.heard s font m).called command reason place e in
       let c : get_or said 1 0 ≡ command = b.command ∙ ap (λ (x : Answer). (numbers_of x).command) e in
-      let key : (filing_of (Refused command reason place)).key ≡ key_in said = λ i. record {
+      let key : calls.key_of command reason place ≡ key_in said = λ i. record {
         command = sym c i;
         reason = sym (b.reason ∙ ap (λ (x : Answer). (numbers_of x).reason) e) i;
         place = sym (b.place ∙ ap (λ (x : Answer). (numbers_of x).place) e) i;
       } in
-      let files : filed (filing_of (Refused command reason place)).key (record { register = records_lent k.faults; unfiled = w.panel.line.unfiled }) ≡ filed_as k said =
+      let files : filed (calls.key_of command reason place) (record { register = records_lent k.faults; unfiled = w.panel.line.unfiled }) ≡ filed_as k said =
       λ i. filed (key i) (record { register = standing.register_is s font m q i; unfiled = (sym (standing.same_panel s) i).line.unfiled }) in
-      let unfiled : (filed (filing_of (Refused command reason place)).key (record { register = records_lent k.faults; unfiled = w.panel.line.unfiled })).unfiled ≡ (filed (key_in said) (record { register = register_of k.faults; unfiled = w.panel.line.unfiled })).unfiled =
+      let unfiled : (filed (calls.key_of command reason place) (record { register = records_lent k.faults; unfiled = w.panel.line.unfiled })).unfiled ≡ (filed (key_in said) (record { register = register_of k.faults; unfiled = w.panel.line.unfiled })).unfiled =
       λ i. (filed (key i) (record { register = standing.register_is s font m q i; unfiled = w.panel.line.unfiled })).unfiled in
-      let t : (filing_of (standing.t s font m).answer).refused ≡ true = ap (λ (x : Answer). (filing_of x).refused) e in
+      let t : is_some (filing_of (standing.t s font m).answer) ≡ true = ap (λ (x : Answer). is_some (filing_of x)) e in
       record {
         stays = record { body = body_then (ap (λ (x : Said). x.panel.body) u.0); picture = standing.picture_is s font m ∙ u.1 ∙ sym s.picture; list = standing.list_is s font m ∙ u.2 };
         reply = standing.reply_is s font m ∙ u.3 ∙ ap (λ (x : ℕ). front (packet_bytes (192 + x) []) out) (sym c);

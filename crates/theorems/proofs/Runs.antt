@@ -1,10 +1,11 @@
 -- What each call keeps: the picture drawn afresh, the state in its ranges, the sum of what is filed.
 use Prim.Native.Nat.{ℕ, ◌+◌, ◌<◌, ◌≤◌}
 use mathlib.Core.Path.{◌≡◌, refl, sym, ◌∙◌, ap, subst}
-use mathlib.Core.Bool.{Bool, true, false}
+use mathlib.Core.Bool.{true}
 use mathlib.Core.List.{List, ◌∷◌}
 use native.Mathlib.Omega.{arith}
 use lib.ListN.{length, take, replicate, length-take}
+use Rattle.std.specs.Prelude.{Option, Some, None, is_some}
 use Rattle.lists.specs.Tests.{when◌then◌else◌}
 use Rattle.lists.proofs.Laws.{length_front}
 use Rattle.packets.specs.Hold.{held}
@@ -85,7 +86,7 @@ module _ {font : List ℕ} {w : World} {piece list out : List ℕ} {r : Said} {l
       h.called.1 ∙ ap (painted (shown_by w.panel.body) (shown_by (body_after w.panel l)) font) e ∙ repainted (shown_by w.panel.body) (shown_by (body_after w.panel l)) font
       ∙ ap (λ (x : Body). drawn (shown_by x) font) b
 
-  pub hears_files : files_of v ≡ filed_if (filing_of r.answer).refused (filing_of r.answer).key (files_of w)
+  pub hears_files : files_of v ≡ filed_if (filing_of r.answer) (files_of w)
   hears_files = rw h.panel (line_files w.panel l w.register r v.picture list' out' v.register h.called)
 
 module _ {c : Other} {p : Panel} {out : List ℕ} {r : Said} {out' : List ℕ} (m : Answers c p out r out') where
@@ -108,15 +109,15 @@ module _ {font : List ℕ} {Lends : World → List Record → Type 0} where
   still_in_order (more k (answers m) r) o = still_in_order r (answers_in_order m o)
 
 -- one call adds to the total what it refuses
-filed_if_lem : (refused : Bool) (k : Refusal) (f : Files) → total f + (when refused then 1 else 0) ≤ most → total (filed_if refused k f) ≡ total f + (when refused then 1 else 0)
+filed_if_lem : (k : Option Refusal) (f : Files) → total f + (when is_some k then 1 else 0) ≤ most → total (filed_if k f) ≡ total f + (when is_some k then 1 else 0)
 unfolding filed_if when◌then◌else◌
-filed_if_lem true k f h = one_more k f (omega arith)
-filed_if_lem false k f h = omega arith
+filed_if_lem None f h = omega arith
+filed_if_lem (Some k) f h = one_more k f (omega arith)
 
 module _ (font : List ℕ) where
   one_call : {c : Call} {w : World} {r : Said} {v : World} → Makes font c w r v → total (files_of w) + refused_in r ≤ most → total (files_of v) ≡ total (files_of w) + refused_in r
   unfolding refused_in
-  one_call {w = w} {r = r} (hears h) n = ap total (hears_files h) ∙ filed_if_lem (filing_of r.answer).refused (filing_of r.answer).key (files_of w) n
+  one_call {w = w} {r = r} (hears h) n = ap total (hears_files h) ∙ filed_if_lem (filing_of r.answer) (files_of w) n
   one_call {w = w} {r = r} (answers m) n = rw (others.line_kept m) (omega (arith, others.none_refused m))
 
   pub adds_up : {cs : List Call} {w v : World} {n : ℕ} → Runs font lent_back cs w v n → total (files_of w) + n ≤ most → total (files_of v) ≡ total (files_of w) + n

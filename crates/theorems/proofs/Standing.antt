@@ -2,13 +2,13 @@
 use Prim.Native.Nat.{ℕ, ◌<◌, ◌≤◌}
 use mathlib.Core.Path.{◌≡◌, refl, sym, ◌∙◌, ap}
 use mathlib.Core.Logic.{dite, ◌≢◌, ◌↔◌}
-use mathlib.Core.Bool.{true}
+use mathlib.Core.Bool.{Bool, true}
 use mathlib.Core.List.{List}
 use native.Mathlib.Decide.{dec_lt}
 use native.Mathlib.Omega.{arith}
 use borrow.Author.Tests.{eqb-true, lt-ltb, le-ltb, ne_eqb}
 use lib.ListN.{length, get_or}
-use Rattle.lists.specs.Tests.{◌=?◌}
+use Rattle.lists.specs.Tests.{when◌then◌else◌, ◌=?◌}
 use Rattle.lists.proofs.Laws.{when_either, when_true, when_false}
 use Rattle.panel.specs.declared.Panel.{Panel}
 use Rattle.filing.specs.Filing.{Files}
@@ -37,7 +37,7 @@ use Rattle.theorems.specs.Run.{World, with_panel, with_register, refused_in, Hea
 use Rattle.theorems.specs.Library.{Kept, with_state, LineOn, refusals, StandsFor}
 use Rattle.theorems.proofs.Others.{is_on_lem, state_by, by_bytes}
 use Rattle.theorems.proofs.Others as others
-use Rattle.theorems.proofs.Outcomes.{tests_of, Outcome, turned_away, waits, finds, strays, does, refuses, outcome}
+use Rattle.theorems.proofs.Outcomes.{tests_of, files_at_4, Outcome, turned_away, waits, finds, strays, does, refuses, outcome}
 use Rattle.theorems.proofs.Calls.{call_refused_says}
 use Rattle.theorems.proofs.Calls as calls
 use Rattle.theorems.proofs.Fits.{line_fits, other_fits}
@@ -56,7 +56,7 @@ state_kept state r h = when_false _ _ _ (le-ltb _ _ h)
 -- only answer 4 is filed
 pub faults_kept : (faults : List ℕ) (a : Answer) (unfiled : ℕ) → ((numbers_of a).number ≡ 4 → ⊥) → faults_after a unfiled faults ≡ faults
 unfolding faults_after
-faults_kept faults a unfiled h = when_false _ _ _ (ne_eqb (numbers_of a).number 4 h)
+faults_kept faults a unfiled h = when_false _ _ _ (files_at_4 a ∙ ne_eqb (numbers_of a).number 4 h)
 
 module _ {k : Kept} {w : World} (s : StandsFor k w) where
   pub is_read : is_state k.state ≡ true
@@ -108,7 +108,7 @@ module _ {k : Kept} {w : World} (s : StandsFor k w) where
 
     pub none_refused : refusals n ≡ refused_in says
     unfolding refusals refused_in
-    none_refused = ap refusals other_number
+    none_refused = ap refusals other_number ∙ ap (λ (t : Bool). when t then 1 else 0) (sym (files_at_4 says.answer))
 
   -- the cells of a symbol, by the count in the 16 bytes
   module _ {glyph : ℕ} {list : List ℕ} {n : ℕ} {list' said' : List ℕ} (m : CellsBytes k.state glyph list n list' said') (accepted : n < 10) where
@@ -230,7 +230,7 @@ module _ {k : Kept} {w : World} (s : StandsFor k w) where
 
     pub line_refusals : refusals n ≡ refused_in r
     unfolding refusals refused_in
-    line_refusals = ap refusals number_is
+    line_refusals = ap refusals number_is ∙ ap (λ (t : Bool). when t then 1 else 0) (sym (files_at_4 r.answer))
 
     -- what the call lists, by the count in its 16 bytes
     abbrev pub count : ℕ

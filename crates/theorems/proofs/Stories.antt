@@ -4,9 +4,10 @@ use mathlib.Core.Path.{◌≡◌, refl, sym, ◌∙◌, ap}
 use mathlib.Core.Bool.{Bool, true, false, true≢false}
 use mathlib.Core.List.{List, [], ◌∷◌, ◌++◌, map}
 use native.Mathlib.Omega.{arith}
-use borrow.Author.Tests.{eq-eqb, eqb-true, le-leb, leb-true}
+use borrow.Author.Tests.{eq-eqb, ne_eqb, eqb-true, le-leb, leb-true}
 use lib.ListN.{length, take, drop, replicate}
 use lib.Seq.{take_at}
+use Rattle.std.specs.Prelude.{Some, None, option_to_list}
 use Rattle.lists.specs.Tests.{when◌then◌else◌, ◌=?◌}
 use Rattle.lists.proofs.Laws.{when_true, when_false}
 use Rattle.packets.specs.declared.Hold.{Hold}
@@ -27,9 +28,9 @@ use Rattle.picture.specs.Repaint.{changed}
 use Rattle.picture.proofs.Changes.{length-painted}
 use Rattle.answers.specs.declared.Check.{Check}
 use Rattle.answers.specs.declared.Answer.{Answer}
-use Rattle.answers.specs.declared.Answer.TheVariants.{Waiting}
+use Rattle.answers.specs.declared.Answer.TheVariants.{Waiting, Stray, Done, Refused, CallRefused}
 use Rattle.answers.specs.declared.Said.{Said}
-use Rattle.answers.specs.Answer.{numbers_of, is_done, filing_of}
+use Rattle.answers.specs.Answer.{check_number, numbers_of, is_done, filing_of}
 use Rattle.answers.specs.Checks.{Test}
 use Rattle.answers.proofs.Checks.{First, here, later, Pass, refused_from_ten}
 use Rattle.listen.specs.declared.Heard.{Heard}
@@ -42,14 +43,14 @@ use Rattle.theorems.specs.Other.{Other, room_for, Answers}
 use Rattle.theorems.specs.Run.{World, with_panel, files_of}
 use Rattle.theorems.specs.Story.{Entry, packet, other, replied, listed, wrote, noted, LineHears, Others, none, one, Story, last, line, call, call_places}
 use Rattle.theorems.proofs.Others.{by_row, alike, blanks}
-use Rattle.theorems.proofs.Outcomes.{tests_of, scan_of, reply_heard, Answered, strays, does, refuses, Outcome, turned_away, waits, finds, outcome}
+use Rattle.theorems.proofs.Outcomes.{tests_of, scan_of, scan_packet, reply_heard, Answered, strays, does, refuses, Outcome, turned_away, waits, finds, outcome}
 use Rattle.theorems.proofs.Runs.{InOrder, hears_in_order, hears_files, answers_in_order, lent_to, said_then, world_then, hears_then}
 use Rattle.theorems.proofs.Played.{Item, found, made, bytes_in, composed_bytes, step_body, step_reply, entry_of, body_then, played, body_at_end, played_append, end_append, packets_among, found_among, same_played}
 
 -- what is filed of the packets that a story tells of
 abbrev pub filed_by : List Entry → Files → Files
 filed_by [] f = f
-filed_by (packet a _ _ ∷ entries) f = filed_by entries (filed_if (filing_of a).refused (filing_of a).key f)
+filed_by (packet a _ _ ∷ entries) f = filed_by entries (filed_if (filing_of a) f)
 filed_by (other _ _ _ ∷ entries) f = filed_by entries f
 
 -- a packet is answered by another number than waiting's
@@ -66,13 +67,13 @@ either_taken true m n a b c d e f = e
 either_taken false m n a b c d e f = f
 
 -- a packet that is found: its reply and its cells are those of a body and the packet alone
-module _ (p : Panel) (l : Lent) (h : line_heard p l ≡ heard_of p.line (scan_of p l) l.reply) (g : reply_heard p l ≡ heard_reply (scan_of p l) l.reply) (f : (scan_of p l).found ≡ true) where
+module _ (p : Panel) (l : Lent) (h : line_heard p l ≡ heard_of p.line (scan_of p l) l.reply) (g : reply_heard p l ≡ heard_reply (scan_of p l) l.reply) (f : (scan_of p l).packet ≡ Some (scan_packet p l)) where
   abbrev k : Packet
-  k = (scan_of p l).packet
+  k = scan_packet p l
 
-  answer_found : answer_in (scan_of p l).found k ≡ answer_to k
+  answer_found : answer_in (scan_of p l).packet ≡ answer_to k
   unfolding answer_in
-  answer_found = when_true _ _ _ f
+  answer_found = ap answer_in f
 
   done_found : line_done p l ≡ is_done (answer_to k)
   done_found = ap (λ (x : Heard). is_done x.answer) h ∙ ap is_done answer_found
@@ -102,8 +103,8 @@ pub record Turn (font : List ℕ) (p : Panel) (s : Scanned) (r : Said) (list out
   pub line : r.panel.line ≡ line_unfiled (line_holding p.line s.hold) r.panel.line.unfiled
   pub body : r.panel.body ≡ body_at_end font p.body (map found (packets_in s))
   pub counts : r.counts ≡ s.counts
-  pub waits : r.answer ≡ Waiting → s.found ≡ false
-  pub silent : s.found ≡ false → r.answer ≡ Waiting
+  pub waits : r.answer ≡ Waiting → s.packet ≡ None
+  pub silent : s.packet ≡ None → r.answer ≡ Waiting
 
 module _ {font : List ℕ} {w : World} {piece : List ℕ} {r : Said} {list' out' : List ℕ} {v : World} (hears : LineHears font w piece r list' out' v) where
   abbrev p : Panel
@@ -123,14 +124,14 @@ module _ {font : List ℕ} {w : World} {piece : List ℕ} {r : Said} {list' out'
   line_by e = own_unfiled (line_holding p.line s.hold) (ap (λ (x : Said). x.panel.line) hears.heard.called.0 ∙ ap (λ (x : Line). line_unfiled x (files_after (line_said p l) w.register).unfiled) e)
 
   pub heard_turn : Turn font p s r list' out'
-  unfolding noted packets_in numbers_of is_done answer_in
+  unfolding noted numbers_of is_done answer_in
   heard_turn = go (outcome p l) said_by
     where
       go : {a : Answer} → Outcome p l a → r.answer ≡ a → Turn font p s r list' out'
       go (turned_away {c = c} f h g) e = absurd (omega (arith, hears.accepted, refused_from_ten c, ap (λ (x : Answer). (numbers_of x).number) e))
       go (waits q h g f) e =
-          let none : packets_in s ≡ [] = when_false _ _ _ f in
-          let d : line_done p l ≡ false = ap (λ (x : Heard). is_done x.answer) h ∙ ap is_done (when_false _ _ _ f) in
+          let none : packets_in s ≡ [] = ap option_to_list f in
+          let d : line_done p l ≡ false = ap (λ (x : Heard). is_done x.answer) h ∙ ap is_done (ap answer_in f) in
           record {
             entries = rw none (when_true _ _ _ (ap (λ (x : Answer). (numbers_of x).number =? 1) e));
             line = line_by (ap (λ (x : Heard). x.line) h);
@@ -140,12 +141,12 @@ module _ {font : List ℕ} {w : World} {piece : List ℕ} {r : Said} {list' out'
             silent = λ _. e;
           }
       go (finds q h g f b k) e =
-          let one : packets_in s ≡ s.packet ∷ [] = when_true _ _ _ f in
+          let one : packets_in s ≡ scan_packet p l ∷ [] = ap option_to_list f in
           let n : length hears.out ≡ 26 = eqb-true _ _ q.1.1.1.1.1.0 in
           let t : ((numbers_of r.answer).number =? 1) ≡ false = ap (λ (x : Answer). (numbers_of x).number =? 1) e ∙ not_waiting k in
-          let replies : replied r out' ≡ step_reply p.body s.packet =
+          let replies : replied r out' ≡ step_reply p.body (scan_packet p l) =
           (λ i. take (hears.heard.called.0 i).reply (hears.heard.called.3 i)) ∙ reply_found p l h g f n in
-          let lists : listed r list' ≡ changed (shown_by p.body) (shown_by (step_body p.body s.packet)) font =
+          let lists : listed r list' ≡ changed (shown_by p.body) (shown_by (step_body p.body (scan_packet p l))) font =
           (λ i. take (hears.heard.called.0 i).listed (hears.heard.called.2 i)) ∙ take_at (altered p l) (drop (length (altered p l)) hears.list) (length (altered p l)) refl ∙ cells_found_lem p l h g f in
           record {
             entries = rw one (when_false _ _ _ t ∙ (λ i. packet ((e ∙ b) i) (replies i) (lists i) ∷ []));
@@ -153,7 +154,7 @@ module _ {font : List ℕ} {w : World} {piece : List ℕ} {r : Said} {list' out'
             body = rw one (ap (λ (x : Said). x.panel.body) hears.heard.called.0 ∙ body_found p l h g f);
             counts = ap (λ (x : Said). x.counts) hears.heard.called.0 ∙ ap (λ (x : Heard). x.counts) h;
             waits = λ a. absurd (true≢false (sym (ap (λ (x : Answer). (numbers_of x).number =? 1) a) ∙ t));
-            silent = λ z. absurd (true≢false (sym f ∙ z));
+            silent = λ z. let no : Some (scan_packet p l) ≡ None = sym f ∙ z in cc;
           }
 
   heard_passed : Pass (tests_of p l)
@@ -168,23 +169,24 @@ module _ {font : List ℕ} {w : World} {piece : List ℕ} {r : Said} {list' out'
   piece_fits : length piece ≤ 4096
   piece_fits = leb-true _ _ heard_passed.1.0
 
-waiting_files : (a : Answer) → a ≡ Waiting → (f : Files) → filed_if (filing_of a).refused (filing_of a).key f ≡ f
-unfolding filed_if numbers_of
-waiting_files a e f = when_false _ _ _ (rw e refl)
+waiting_files : (a : Answer) → a ≡ Waiting → (f : Files) → filed_if (filing_of a) f ≡ f
+unfolding filed_if
+waiting_files a e f = rw e
 
 -- what is noted of a call is filed as its answer says: where it waits, nothing is
-filed_noted : (r : Said) (list out : List ℕ) (entries : List Entry) (f : Files) → filed_by (noted r list out ++ entries) f ≡ filed_by entries (filed_if (filing_of r.answer).refused (filing_of r.answer).key f)
-unfolding noted filed_if
-filed_noted r list out entries f = go ((numbers_of r.answer).number =? 1) refl
+filed_noted : (r : Said) (list out : List ℕ) (entries : List Entry) (f : Files) → filed_by (noted r list out ++ entries) f ≡ filed_by entries (filed_if (filing_of r.answer) f)
+unfolding noted numbers_of filed_if when◌then◌else◌
+filed_noted r list out entries f = go r.answer
   where
-    note : Entry
-    note = packet r.answer (replied r out) (listed r list)
+    note : Answer → Entry
+    note a = packet a (replied r out) (listed r list)
 
-    go : (waits : Bool) → ((numbers_of r.answer).number =? 1) ≡ waits → filed_by (noted r list out ++ entries) f ≡ filed_by entries (filed_if (filing_of r.answer).refused (filing_of r.answer).key f)
-    go true e =
-        let n : (numbers_of r.answer).number ≡ 1 = eqb-true _ _ e in
-        rw (when_true _ ([]) (note ∷ []) e) (ap (filed_by entries) (sym (when_false _ _ _ (rw n refl))))
-    go false e = rw (when_false _ ([]) (note ∷ []) e)
+    go : (a : Answer) → filed_by ((when (numbers_of a).number =? 1 then [] else note a ∷ []) ++ entries) f ≡ filed_by entries (filed_if (filing_of a) f)
+    go Waiting = refl
+    go (Stray command) = refl
+    go (Done command) = refl
+    go (Refused command reason place) = refl
+    go (CallRefused c) = rw (ne_eqb (check_number c) 1 (λ (e : check_number c ≡ 1). absurd (omega (arith, refused_from_ten c))))
 
 module _ {c : Other} {p : Panel} {out : List ℕ} {r : Said} {out' : List ℕ} (font : List ℕ) (n : length out ≡ room_for c) (m : Answers c p out r out') (h : InOrder p) where
   made_turn : (other c r.answer (wrote r out') ≡ entry_of font p.body (made c)) × (r.panel ≡ with_body p (body_then font p.body (made c)))
@@ -232,12 +234,11 @@ pub record PlayedOn (font : List ℕ) (w : World) (bytes : List ℕ) (entries : 
   pub in_order : InOrder v.panel
 
 pub story_played : {font : List ℕ} {w : World} {bytes : List ℕ} {entries : List Entry} {v : World} → InOrder w.panel → Story font w bytes entries v → PlayedOn font w bytes entries v
-unfolding packets_in
 story_played {font} {w} {v = z} o (last {v = v} {bytes = bytes} {r = r} hears t a others) =
     let u = heard_turn hears in
     let s = s hears in
     let f = u.waits a in
-    let e : packets_in s ≡ [] = when_false _ _ _ f in
+    let e : packets_in s ≡ [] = ap option_to_list f in
     let b : v.panel.body ≡ w.panel.body = ap (λ (x : Panel). x.body) hears.heard.panel ∙ rw e at u.body in
     let i = others_played font (hears_in_order hears.heard o) others in
     record {
@@ -355,7 +356,7 @@ module _ (font : List ℕ) (w : World) (ready : Ready font w) (piece : List ℕ)
         panel = hears_in_order lets_hear.heard ready.panel;
         picture = length-painted _ _ font w.picture ∙ ready.picture;
         rows = ready.rows;
-        register = length-filed _ _ (record { register = w.register; unfiled = (line_said w.panel lends).panel.line.unfiled }) ∙ ready.register;
+        register = length-filed _ (record { register = w.register; unfiled = (line_said w.panel lends).panel.line.unfiled }) ∙ ready.register;
       }
 
 -- the bytes left, from the world after a call

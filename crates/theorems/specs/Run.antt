@@ -1,6 +1,6 @@
 -- Sequences of calls: the state and the picture are lent back as the last call left them, and each call is lent buffers of any size
 -- and content, but the same font.
-use Rattle.std.specs.Prelude.{ℕ, ◌+◌, ◌≡◌, List, [], ◌∷◌, length}
+use Rattle.std.specs.Prelude.{ℕ, ◌+◌, ◌≡◌, List, [], ◌∷◌, length, is_some}
 use Rattle.lists.specs.Tests.{when◌then◌else◌}
 use Rattle.panel.specs.declared.Panel.{Panel}
 use Rattle.filing.specs.declared.Record.{Record}
@@ -33,7 +33,7 @@ files_of w = record { register = w.register; unfiled = w.panel.line.unfiled }
 
 -- one packet refused, or none
 unfoldable pub refused_in : Said → ℕ
-refused_in r = when (filing_of r.answer).refused then 1 else 0
+refused_in r = when is_some (filing_of r.answer) then 1 else 0
 
 -- a line call on the piece takes the world w to v, says r and leaves the list and the reply buffer as list' and out'
 pub record Hears (font : List ℕ) (w : World) (piece list out : List ℕ) (r : Said) (list' out' : List ℕ) (v : World) : Type 0 where

@@ -1,5 +1,5 @@
 -- Why a packet is refused: the first reason that applies, with its place.
-use Rattle.std.specs.Prelude.{ℕ, ◌+◌, ◌-◌, ◌%◌, ◌≡◌, Bool, true, not, ◌&&◌, ◌||◌, List, length, get_or}
+use Rattle.std.specs.Prelude.{ℕ, ◌+◌, ◌-◌, ◌%◌, ◌≡◌, Bool, true, not, ◌&&◌, ◌||◌, List, length, get_or, Option, Some, None, Result, Ok, Err}
 use Rattle.lists.specs.Tests.{when◌then◌else◌, ◌<?◌, ◌≤?◌, ◌=?◌}
 use Rattle.lists.specs.First.{first_below}
 use Rattle.table.specs.declared.Row.{Row}
@@ -7,8 +7,7 @@ use Rattle.table.specs.declared.Rule.{Rule}
 use Rattle.table.specs.declared.Rule.TheVariants.{Free, UpTo, Glyph, Address, Place, Reboot, Pin}
 use Rattle.verdict.specs.declared.Reason.{Reason}
 use Rattle.verdict.specs.declared.Reason.TheVariants.{UnknownCommand, LengthNotAllowed, DataOutOfRange, PastColumn19, NotTheReboot}
-use Rattle.verdict.specs.declared.Verdict.{Verdict}
-use Rattle.verdict.specs.declared.Verdict.TheVariants.{Allowed, Refused}
+use Rattle.verdict.specs.declared.Objection.{Objection}
 use Rattle.table.specs.Table.{table, look_up, config_allowed}
 
 -- whether the data byte at index i is in its range, by the column "data allowed"
@@ -37,27 +36,31 @@ first_out rule d = first_below (λ i. not (in_range rule d i)) (length d)
 unfoldable pub is_reboot : List ℕ → Bool
 is_reboot d = (length d =? 3) && (get_or d 0 0 =? 8) && (get_or d 1 0 =? 18) && (get_or d 2 0 =? 99)
 
+-- a refusal with its reason and its place; a packet that is not refused is `Ok`
+abbrev pub refused : Reason → ℕ → Result (Unit {0}) Objection
+refused reason place = Err (record { reason = reason; place = place })
+
 -- reasons 4 and 5: "command 31's text passes column 19, place 24 - column"; "command 5's three bytes differ from 8, 18,
 -- 99, place 2"
-unfoldable pub whole_verdict : Rule → List ℕ → Verdict
-whole_verdict Free d = Allowed
-whole_verdict (UpTo most) d = Allowed
-whole_verdict Glyph d = Allowed
-whole_verdict Address d = Allowed
-whole_verdict Place d = when 20 <? get_or d 0 0 + (length d - 2) then Refused PastColumn19 (24 - get_or d 0 0) else Allowed
-whole_verdict Reboot d = when is_reboot d then Allowed else Refused NotTheReboot 2
-whole_verdict Pin d = Allowed
+unfoldable pub whole_verdict : Rule → List ℕ → Result (Unit {0}) Objection
+whole_verdict Free d = Ok tt
+whole_verdict (UpTo most) d = Ok tt
+whole_verdict Glyph d = Ok tt
+whole_verdict Address d = Ok tt
+whole_verdict Place d = when 20 <? get_or d 0 0 + (length d - 2) then refused PastColumn19 (24 - get_or d 0 0) else Ok tt
+whole_verdict Reboot d = when is_reboot d then Ok tt else refused NotTheReboot 2
+whole_verdict Pin d = Ok tt
 
 -- "First that applies: reason 1, unknown command, place 0. Reason 2, length not allowed, place 1. Reason 3, a data byte
 -- out of range, the first such, place 2 + its index." Then reasons 4 and 5.
-unfoldable pub verdict_by : Row → List ℕ → Verdict
-verdict_by r d =
-    when not r.known then Refused UnknownCommand 0
-    else when (length d <? r.shortest) || (r.longest <? length d) then Refused LengthNotAllowed 1
-    else when first_out r.rule d <? length d then Refused DataOutOfRange (2 + first_out r.rule d)
+unfoldable pub verdict_by : Option Row → List ℕ → Result (Unit {0}) Objection
+verdict_by None d = refused UnknownCommand 0
+verdict_by (Some r) d =
+    when (length d <? r.shortest) || (r.longest <? length d) then refused LengthNotAllowed 1
+    else when first_out r.rule d <? length d then refused DataOutOfRange (2 + first_out r.rule d)
     else whole_verdict r.rule d
 
-abbrev pub verdict_of : ℕ → List ℕ → Verdict
+abbrev pub verdict_of : ℕ → List ℕ → Result (Unit {0}) Objection
 verdict_of code d = verdict_by (look_up code table) d
 
 -- document 01's number of a reason
@@ -68,6 +71,10 @@ reason_number DataOutOfRange = 3
 reason_number PastColumn19 = 4
 reason_number NotTheReboot = 5
 
+-- what a reason as a number promises
+abbrev pub GivesNumber : Reason → ℕ → Type 0
+GivesNumber reason r = r ≡ reason_number reason
+
 -- what `verdict_on` promises
-abbrev pub Rules : ℕ → List ℕ → Verdict → Type 0
+abbrev pub Rules : ℕ → List ℕ → Result (Unit {0}) Objection → Type 0
 Rules code d r = r ≡ verdict_of code d

@@ -8,12 +8,12 @@ use native.Mathlib.Numerals.{add-one}
 use native.Mathlib.Omega.{arith}
 use borrow.Author.Tests.{eq-eqb, ne_eqb, le-leb, lt-leb, lt-ltb, le-ltb, ltb-false}
 use lib.ListN.{length, drop, set, get_or, drop_of_length-le}
-use lib.Seq.{set_split, drop-cons, drop-drop, get_or-drop}
+use lib.Seq.{drop-cons, drop-drop, get_or-drop}
 use Rattle.std.proofs.Math.Nat.{pow-suc}
 use Rattle.std.proofs.lemmas.List.{drop-set}
 use Rattle.lists.specs.Tests.{when◌then◌else◌, ◌<?◌}
 use Rattle.lists.specs.Runs.{pasted}
-use Rattle.lists.proofs.Laws.{when_true, when_false, pasted_fits, pasted_refused}
+use Rattle.lists.proofs.Laws.{when_true, when_false, pasted_refused}
 use Rattle.wording.specs.Text.{Text, text, ◌then◌, decimal_in, decimal, form_behind}
 
 -- a run that fits stands behind the text
@@ -27,13 +27,6 @@ unfolding ◌then◌
 left_out out size run h =
     let size_is = when_false _ (size + length run) size (lt-leb (size + length run) (length out) h) in
     λ i. text (sym (pasted_refused out size run h) i) (sym size_is i)
-
--- and so does a byte
-pub byte_fits : (out : List ℕ) (size b : ℕ) → size < length out → text (set out size b) (size + 1) ≡ (text out size then (b ∷ []))
-byte_fits out size b h =
-    let written : set out size b ≡ pasted out size (b ∷ []) =
-    rw (set_split out size b h, pasted_fits out size (b ∷ []) (omega arith), add-one size, append_assoc) in
-    ap (λ (o : List ℕ). text o (size + 1)) written ∙ fits out size (b ∷ []) (omega arith)
 
 same_choice : (t : Bool) (a b c : List ℕ) → (t ≡ false → b ≡ c) → when t then a else b ≡ when t then a else c
 unfolding when◌then◌else◌

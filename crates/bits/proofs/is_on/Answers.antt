@@ -1,16 +1,11 @@
-use mathlib.Core.Path.{sym}
+use mathlib.Core.Path.{sym, ◌∙◌}
 use native.Mathlib.Omega.{arith}
-use lib.Pow.{pow_pos}
-use Rattle.bits.specs.Bits.{is_on}
-use Rattle.bits.proofs.Laws.{byte_off}
+use borrow.Author.Tests.{le-ltb}
+use Rattle.bits.proofs.Laws.{asked, byte_off}
 use Rattle.bits.proofs.is_on.Goals as goal
 
-pub returns-then-number-gt7 : goal.returns-then-number-gt7
-returns-then-number-gt7 c = sym (byte_off _ _ (omega arith) (omega arith))
+pub returns-then-number-lt8 : goal.returns-then-number-lt8
+returns-then-number-lt8 c = rw c.bit.ensures (asked c.args.mask c.args.number)
 
-pub nonzero_div-result : goal.nonzero_div-result
-nonzero_div-result c = rw c.bit.ensures (pow_pos c.args.number)
-
-pub returns : goal.returns
-unfolding is_on
-returns c = rw c.bit.ensures
+pub returns-else-number-lt8 : goal.returns-else-number-lt8
+returns-else-number-lt8 c = le-ltb c.args.number 8 (omega arith) ∙ sym (byte_off c.args.mask c.args.number (omega arith) (omega arith))

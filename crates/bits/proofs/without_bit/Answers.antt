@@ -1,20 +1,13 @@
-use mathlib.Core.Path.{sym, ◌∙◌}
+use mathlib.Core.Path.{sym}
 use native.Mathlib.Omega.{arith}
-use Rattle.lists.proofs.Laws.{when_true, when_false}
+use Rattle.lists.proofs.Laws.{when_false}
 use Rattle.bits.specs.Bits.{without_bit}
-use Rattle.bits.proofs.Laws.{on_within, byte_on}
+use Rattle.bits.proofs.Laws.{and_not_bit, byte_off}
 use Rattle.bits.proofs.without_bit.Goals as goal
 
-pub returns-then-not-is_on : goal.returns-then-not-is_on
+pub returns-then-number-lt8 : goal.returns-then-number-lt8
+returns-then-number-lt8 c = rw c.bit.ensures (and_not_bit c.args.mask c.args.number (omega arith) (omega arith))
+
+pub returns-else-number-lt8 : goal.returns-else-number-lt8
 unfolding without_bit
-returns-then-not-is_on c = sym (when_false _ _ _ (sym c.is_on.ensures ∙ c.if-not-is_on.true))
-
-pub bit-requires : goal.bit-requires
-bit-requires c = byte_on c.args.mask _ (omega arith) (sym c.is_on.ensures ∙ c.if-not-is_on.false)
-
-pub overflow_sub-result : goal.overflow_sub-result
-overflow_sub-result c = rw c.bit.ensures (on_within _ _ (sym c.is_on.ensures ∙ c.if-not-is_on.false))
-
-pub returns : goal.returns
-unfolding without_bit
-returns c = rw c.bit.ensures (sym (when_true _ _ _ (sym c.is_on.ensures ∙ c.if-not-is_on.false)))
+returns-else-number-lt8 c = sym (when_false _ _ _ (byte_off c.args.mask c.args.number (omega arith) (omega arith)))

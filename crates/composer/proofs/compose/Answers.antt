@@ -1,14 +1,11 @@
-use mathlib.Core.Path.{sym, ◌∙◌}
-use Rattle.composer.proofs.Ways.{no_buffer, refused, composed_for}
+use mathlib.Core.Path.{◌≡◌}
+use native.Mathlib.Omega.{arith}
+use Rattle.std.specs.Prelude.{Ok}
+use Rattle.verdict.specs.Verdict.{verdict_of}
+use Rattle.composer.proofs.Ways.{composed_for}
 use Rattle.composer.proofs.compose.Goals as goal
 
-pub returns-then-packet-ne-REPLY : goal.returns-then-packet-ne-REPLY
-returns-then-packet-ne-REPLY c = no_buffer _ _ _ c.if-packet-ne-REPLY.true
-
-pub returns-in-Allowed : goal.returns-in-Allowed
-returns-in-Allowed c =
-    composed_for _ _ _ c.if-packet-ne-REPLY.false (sym c.verdict_for.ensures ∙ c.in-Allowed.is) _ _ c.compose.ensures
-
-pub returns-in-Refused : goal.returns-in-Refused
-returns-in-Refused c =
-    refused _ _ _ c.if-packet-ne-REPLY.false _ _ (sym c.verdict_for.ensures ∙ c.in-Refused.is)
+pub returns : goal.returns
+returns c =
+    let v : verdict_of c.args.code c.args.content.now ≡ Ok tt = grind arith in
+    composed_for _ _ _ c.if-packet-ne-REPLY.false v _ _ c.compose-size.ensures

@@ -1,12 +1,17 @@
 use borrow.Author.Tests.{lt-ltb, le-ltb}
+use Rattle.std.proofs.Common.{◌<◌, ◌≤◌, arith}
 use Rattle.lists.specs.Tests.{when◌then◌else◌}
-use Rattle.filing.specs.Filing.{filed_in}
+use Rattle.filing.specs.Filing.{most, filed_in}
 use Rattle.filing.proofs.filed_in.Goals as goal
 
-pub returns-then-r-lt-MOST : goal.returns-then-r-lt-MOST
+pub returns-in_default : goal.returns-in_default
 unfolding filed_in when◌then◌else◌
-returns-then-r-lt-MOST c = simp (lt-ltb _ _ c.if-r-lt-MOST.true)
+returns-in_default c =
+    let h : most ≤ c.args.r.count = omega (arith, c.in_default.ensures) in
+    simp (le-ltb _ _ h, c.unfiled_more.ensures)
 
 pub returns : goal.returns
 unfolding filed_in when◌then◌else◌
-returns c = simp (le-ltb _ _ c.if-r-lt-MOST.false, c.unfiled_more-more.ensures)
+returns c =
+    let h : c.args.r.count < most = omega (arith, c.in-Some.ensures) in
+    simp (c.in-Some.ensures.1, lt-ltb _ _ h)

@@ -5,6 +5,7 @@ use Rattle.framing.proofs.with_packet.Goals as goal
 pub returns : goal.returns
 returns c =
     let a = c.args in
-    scanned_packet a.window.now a.taken a.dropped a.checked c.wide-n.result
+    let k = a.counts in
+    scanned_packet a.window.now k.taken k.dropped k.checked c.wide-n.result
     c.kept-hold.result c.paste.new.out (omega arith) (omega arith) (omega arith)
     c.kept-hold.ensures c.paste.ensures

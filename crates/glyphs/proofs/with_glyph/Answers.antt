@@ -1,4 +1,8 @@
+use Rattle.std.proofs.Common.{◌∙◌, rules}
+use Rattle.glyphs.proofs.Flat.{glyph_laid}
 use Rattle.glyphs.proofs.with_glyph.Goals as goal
 
 pub returns : goal.returns
-returns c = rw (c.flattened.ensures, c.set.ensures, c.nested.ensures)
+returns c =
+    let a = c.args in
+    c.paste.ensures ∙ rw c.wide.ensures.0 (glyph_laid a.flat a.number a.rows (search rules) (search rules))

@@ -4,7 +4,6 @@ use Rattle.panel.specs.declared.Body.{Body}
 use Rattle.answers.specs.Answer.{numbers_of}
 use Rattle.statebytes.specs.State.{state_with}
 use Rattle.saidbytes.specs.Says.{said_bytes}
-use borrow.Author.Rules.{rules}
 use Rattle.linebytes.proofs.carried_out.Goals as goal
 
 pub returns : goal.returns

@@ -1,17 +1,11 @@
-use Rattle.linebytes.proofs.Filed.{nothing_filed, refusal_filed}
-use borrow.Author.Tests.{not-true, not-false}
-use borrow.Author.Rules.{rules}
+use mathlib.Core.Path.{sym}
+use Rattle.linebytes.proofs.Filed.{none_filed, refusal_filed}
 use Rattle.linebytes.proofs.file.Goals as goal
 
-pub returns-then-not-f : goal.returns-then-not-f
-returns-then-not-f c =
-    let a = c.args in
-    let f = c.to_file-f in
-    nothing_filed a.answer a.unfiled a.faults.now f.result f.ensures (not-true _ c.if-not-f.true)
+pub returns-in-None : goal.returns-in-None
+returns-in-None c = let a = c.args in none_filed a.answer a.unfiled a.faults.now (sym c.in-None.ensures)
 
-pub returns : goal.returns
-returns c =
+pub returns-in-Some : goal.returns-in-Some
+returns-in-Some c =
     let a = c.args in
-    let f = c.to_file-f in
-    let q = c.file_in-r in
-    refusal_filed a.answer a.unfiled a.faults.now f.result f.ensures (not-false _ c.if-not-f.false) _ q.result _ c.read-records.ensures q.ensures c.write.ensures
+    refusal_filed a.answer a.unfiled a.faults.now (sym c.in-Some.ensures) _ _ _ c.read-records.ensures c.file_in-r.ensures c.write.ensures

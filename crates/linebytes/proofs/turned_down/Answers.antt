@@ -2,7 +2,6 @@ use Prim.Native.Nat.{ℕ}
 use mathlib.Core.Path.{◌∙◌, ap}
 use Rattle.panel.specs.State.{line_unfiled}
 use Rattle.statebytes.specs.State.{line_with}
-use borrow.Author.Rules.{rules}
 use Rattle.linebytes.proofs.turned_down.Goals as goal
 
 pub returns : goal.returns

@@ -3,7 +3,7 @@ use mathlib.Core.Path.{◌≡◌, refl, sym}
 use mathlib.Core.Bool.{false}
 use native.Mathlib.Omega.{arith}
 use borrow.Author.Tests.{ne_eqb}
-use Rattle.lists.specs.Tests.{when◌then◌else◌, ◌=?◌}
+use Rattle.lists.specs.Tests.{◌=?◌}
 use Rattle.lists.proofs.Laws.{when_false}
 use Rattle.verdict.specs.declared.Reason.{Reason}
 use Rattle.answers.specs.declared.Answer.{Answer}
@@ -21,10 +21,6 @@ others (Stray command) k = refl
 others (Done command) k = refl
 others (Refused command reason place) k = absurd (k command reason place refl)
 others (CallRefused check) k = ne_eqb (check_number check) 4 (omega (arith, from_ten check))
-
-pub returns-in-Refused : goal.returns-in-Refused
-unfolding refused_length refused_reply when◌then◌else◌ numbers_of
-returns-in-Refused c = rw c.in-Refused.is c.compose.ensures
 
 pub returns-in_default : goal.returns-in_default
 unfolding refused_length refused_reply

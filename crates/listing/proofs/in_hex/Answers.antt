@@ -1,11 +1,10 @@
 use mathlib.Core.Path.{◌∙◌}
 use native.Mathlib.Omega.{arith}
-use borrow.Author.Rules.{rules}
 use Rattle.listing.proofs.Laws.{marks_first, hex_turn}
 use Rattle.listing.proofs.in_hex.Goals as goal
 
 pub loop-i-init : goal.loop-i-init
-loop-i-init c = (search rules, c.paste.ensures ∙ marks_first, c.paste.auto.out)
+loop-i-init c = (c.paste.ensures ∙ marks_first, c.paste.auto.out)
 
 pub loop-i-preserved : goal.loop-i-preserved
 loop-i-preserved c =
@@ -13,4 +12,4 @@ loop-i-preserved c =
     let a = c.args.content.now in
     let high = c.digit.ensures in
     let low = c.digit-in-loop-i.ensures in
-    (omega arith, c.paste-in-loop-i.ensures ∙ rw (l.invariant.1, high, low) (hex_turn a l.i (omega arith) (omega arith)), c.paste-in-loop-i.auto.out ∙ l.invariant.2)
+    (c.paste-in-loop-i.ensures ∙ rw (l.invariant.0, high, low) (hex_turn a l.i (omega arith) (omega arith)), c.paste-in-loop-i.auto.out ∙ l.invariant.1)

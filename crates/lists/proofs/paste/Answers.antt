@@ -1,40 +1,18 @@
-use Prim.Native.Nat.{◌<◌, ◌+◌}
-use mathlib.Core.Path.{◌≡◌, refl, sym, ◌∙◌}
-use native.Mathlib.Omega.{arith}
-use lib.ListN.{length, length-set}
-use lib.Seq.{paste-zero}
-use borrow.Author.Rules.{rules}
-use borrow.Author.Tests.{ltb-false}
-use Rattle.lists.proofs.Laws.{paste_turn, pasted_fits, pasted_refused}
+use Rattle.std.proofs.Common.{arith, rules, ◌<◌, ◌+◌, length, refl, sym, ◌∙◌}
+use Rattle.std.proofs.lemmas.Slice.{put_mid-paste}
+use Rattle.lists.proofs.Laws.{pasted_fits, pasted_refused}
 use Rattle.lists.proofs.paste.Goals as goal
-use Rattle.lists.proofs.paste.Goals.{then-out-place-via-then-out-place, then-out-place-via-else-out-place+then-out-place-2}
+use Rattle.lists.proofs.paste.Goals.{else-place-out-via-then-place-out+else-run-out, else-place-out-via-else-place-out}
 
-pub returns-then-out-place : goal.returns-then-out-place
-returns-then-out-place c =
-    let short : length c.args.out.now < c.args.place + length c.args.run.now = elim c.then-out-place.branch [
-      | then-out-place-via-then-out-place w ↦ omega arith
-      | then-out-place-via-else-out-place+then-out-place-2 w ↦ omega arith
+pub returns-then-run-out : goal.returns-then-run-out
+returns-then-run-out c =
+    let a = c.args in
+    put_mid-paste a.place _ a.out.now _ a.run.now _ (search rules) (omega arith) refl ∙ sym (pasted_fits a.out.now a.place a.run.now (omega arith))
+
+pub returns-else-place-out : goal.returns-else-place-out
+returns-else-place-out c =
+    let short : length c.args.out.now < c.args.place + length c.args.run.now = elim c.else-place-out.branch [
+      | else-place-out-via-then-place-out+else-run-out w ↦ omega arith
+      | else-place-out-via-else-place-out w ↦ omega arith
     ] in
     sym (pasted_refused c.args.out.now c.args.place c.args.run.now short)
-
-pub loop-i-init : goal.loop-i-init
-loop-i-init c =
-    let a = c.args in
-    (omega (arith, ltb-false), omega arith, paste-zero a.out.now a.place a.run.now, refl)
-
-pub loop-i-preserved : goal.loop-i-preserved
-loop-i-preserved c =
-    let l = c.loop-i in
-    let a = c.args in (
-      l.invariant.0,
-      search rules,
-      rw l.invariant.2 (paste_turn a.out.now a.place a.run.now l.i (omega arith) c.loop-i-test.true),
-      simp length-set l.invariant.3,
-    )
-
-pub returns : goal.returns
-returns c =
-    let l = c.loop-i in
-    let a = c.args in
-    let e : l.i ≡ length a.run.now = omega arith in
-    l.invariant.2 ∙ rw e (sym (pasted_fits a.out.now a.place a.run.now l.invariant.0))

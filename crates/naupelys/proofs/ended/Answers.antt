@@ -1,7 +1,6 @@
 use borrow.Author.Tests.{lt-ltb, le-ltb}
 use Rattle.lists.proofs.Laws.{when_true, when_false}
 use mathlib.Core.Path.{sym, ◌∙◌}
-use borrow.Author.Rules.{rules}
 use Rattle.naupelys.proofs.ended.Goals as goal
 
 pub returns-then-number-lt10 : goal.returns-then-number-lt10

@@ -1,5 +1,4 @@
-use mathlib.Core.Path.{◌≡◌, refl}
-use lib.ListN.{replicate}
+use Rattle.std.proofs.Common.{◌≡◌, refl, replicate}
 use Rattle.lists.specs.Tests.{when◌then◌else◌}
 use Rattle.glyphs.specs.Source.{source_of}
 use Rattle.sets.specs.Sets.{mark_for, searched}
@@ -13,4 +12,4 @@ no_symbols = refl
 
 pub returns : goal.returns
 unfolding powered_on
-returns c = rw (c.factory-live.ensures, c.empty-hold.ensures, no_symbols)
+returns c = rw (c.factory-live.ensures, c.empty.ensures, no_symbols)

@@ -1,5 +1,4 @@
 use Rattle.answers.proofs.Checks.{first_one, one_more}
-use borrow.Author.Rules.{rules}
 use Rattle.power.proofs.checked.Goals as goal
 
 pub returns : goal.returns

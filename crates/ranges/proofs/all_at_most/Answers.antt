@@ -1,17 +1,12 @@
-use mathlib.Core.Path.{sym, ◌∙◌}
+use Rattle.std.proofs.Common.{ℕ, Bool, true, ◌&&◌, ◌∙◌, rules, tests}
+use Rattle.std.proofs.lemmas.Iterator.{YieldsList-from_slice}
+use Rattle.std.proofs.lemmas.Iterator.Consumers.{fold_from_yields_List}
 use Rattle.lists.specs.Tests.{◌≤?◌}
-use Rattle.lists.proofs.Laws.{all_turn, all_ended}
-use borrow.Author.Rules.{rules}
+use Rattle.ranges.proofs.InRange.{folded_all}
 use Rattle.ranges.proofs.all_at_most.Goals as goal
-
-pub loop-i-preserved : goal.loop-i-preserved
-loop-i-preserved c =
-    let l = c.loop-i in
-    let a = c.args in
-    (search rules, l.invariant.1 ∙ all_turn (λ x. x ≤? a.most) a.bytes.now l.i l.ok c.loop-i-test.true)
 
 pub returns : goal.returns
 returns c =
-    let l = c.loop-i in
-    let a = c.args in
-    sym (l.invariant.1 ∙ all_ended (λ x. x ≤? a.most) a.bytes.now l.i l.ok c.loop-i-test.false)
+    let test : ℕ → Bool = λ (x : ℕ). x ≤? c.args.most in
+    fold_from_yields_List _ (λ (ok : Bool) (x : ℕ). ok && test x) true _ c.fold.ensures.ran (YieldsList-from_slice c.args.bytes.now (cc)) (λ a x b q k. search (rules, tests))
+    ∙ folded_all test c.args.bytes.now true

@@ -1,15 +1,18 @@
-use mathlib.Core.Path.{sym, ◌∙◌, ap}
-use Rattle.recordings.specs.declared.Fault.{Fault}
-use Rattle.recordings.proofs.Looks.{refuses, seeks}
-use borrow.Author.Rules.{rules}
+use Rattle.std.proofs.Common.{◌≡◌, ◌∙◌, sym, arith}
+use Rattle.std.specs.Prelude.{Ok, Err}
+use Rattle.recordings.specs.Recording.{checked}
+use Rattle.recordings.specs.Next.{next_packet}
 use Rattle.recordings.proofs.find.Goals as goal
 
-pub returns-then-fault-ne0 : goal.returns-then-fault-ne0
-returns-then-fault-ne0 c =
-    let a = c.args in
-    c.nothing.ensures ∙ refuses a.recording.now a.place c.check-fault.result.number (ap (λ (f : Fault). f.number) c.check-fault.ensures) c.if-fault-ne0.true
+pub returns-in_err-check : goal.returns-in_err-check
+unfolding next_packet
+returns-in_err-check c =
+    let h : checked c.args.recording.now ≡ Err c.in_err-check.field-0.0 = sym c.check.ensures ∙ c.in_err-check.was in
+    let g : c.from_residual.result ≡ Err c.in_err-check.field-0.0 = grind arith in
+    rw (h, g)
 
 pub returns : goal.returns
+unfolding next_packet
 returns c =
-    let a = c.args in
-    c.seek.ensures ∙ seeks a.recording.now a.place (ap (λ (f : Fault). f.number) (sym c.check-fault.ensures) ∙ c.if-fault-ne0.false)
+    let h : checked c.args.recording.now ≡ Ok c.in_ok-check.field-0 = sym c.check.ensures ∙ c.in_ok-check.was in
+    rw (h, c.seek.ensures)

@@ -3,4 +3,4 @@ use Rattle.registerbytes.proofs.record_bytes.Goals as goal
 
 pub returns : goal.returns
 unfolding bytes
-returns c = rw c.word_bytes-count.ensures
+returns c = rw c.word_bytes.ensures

@@ -1,4 +1,3 @@
-use Prim.Native.Nat.{◌≤◌, ◌-◌}
 use mathlib.Core.Path.{◌≡◌}
 use lib.ListN.{length, take}
 use Rattle.lists.specs.Runs.{front}
@@ -6,7 +5,4 @@ use Rattle.registerbytes.specs.Register.{register_size, register_bytes}
 use Rattle.registerbytes.proofs.write.Given as goal
 
 abbrev pub invariant-loop-i : goal.invariant-loop-i
-invariant-loop-i l = (l.i ≤ 64) × (l.faults ≡ front (register_bytes (take l.i l.records)) l.initial.faults) × (length l.faults ≡ register_size) × (length l.records ≡ 64)
-
-abbrev pub decreases-loop-i : goal.decreases-loop-i
-decreases-loop-i l = 64 - l.i
+invariant-loop-i l = (l.faults ≡ front (register_bytes (take l.i l.r-items)) l.initial.faults) × (length l.faults ≡ register_size)

@@ -1,5 +1,4 @@
 use Rattle.shapes.proofs.Laws.{stands}
-use borrow.Author.Rules.{rules}
 use Rattle.statereads.proofs.pins_of.Goals as goal
 
 pub returns : goal.returns

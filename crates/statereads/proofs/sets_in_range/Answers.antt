@@ -1,6 +1,5 @@
 use Rattle.shapes.specs.Shape.{value}
 use Rattle.statebytes.specs.State.{panel_of}
-use borrow.Author.Rules.{rules}
 use Rattle.statereads.proofs.sets_in_range.Goals as goal
 
 pub returns : goal.returns

@@ -22,15 +22,17 @@ behind p b e sized w lays =
     let line = w ∙ when_true _ _ _ (eq-eqb _ state_size e) ∙ sym (laid_whole line_shape b 0 (line_parts p.line) sized (omega arith)) in
     lays.is ∙ ap (λ (o : List ℕ). laid body_shape o body_place (body_parts p.body)) line ∙ laid_all panel_shape b (panel_parts p) (sized, lays.sized) e
 
-pub returns-then-state-ne-SIZE : goal.returns-then-state-ne-SIZE
+written : (p : Panel) {o b b₁ b₂ : List ℕ} → o ≡ b → length b ≡ state_size → Sized line_shape (line_parts p.line) → WritesLine o p.line b₁
+    → Lays body_shape (body_parts p.body) b₁ body_place b₂ → b₂ ≡ state_with b p
 unfolding state_with
-returns-then-state-ne-SIZE c = sym (when_false _ _ _ (ne_eqb _ state_size c.if-state-ne-SIZE.true))
+written p {o} {b} same e sized w lays = behind p b e sized (rw same at w) lays ∙ sym (when_true _ _ _ (eq-eqb _ state_size e))
 
-pub returns : goal.returns
-unfolding state_with
-returns c =
+pub returns-in-Some : goal.returns-in-Some
+returns-in-Some c =
     let a = c.args in
-    let left = c.if-state-ne-SIZE.false in
-    let sized = line_sized a.l c.well_formed.1.0.1.1.0.1.1.0.1.0.1 in
-    behind (record { line = a.l; body = a.b }) a.state.now left sized c.write_line.ensures c.lay_body.ensures
-    ∙ sym (when_true _ _ _ (eq-eqb _ state_size left))
+    let h = c.in-Some.ensures.cases in
+    written (record { line = a.l; body = a.b }) h.same h.long (line_sized a.l (search rules)) c.write_line.ensures c.lay_body.ensures
+
+pub returns-in_default : goal.returns-in_default
+unfolding state_with
+returns-in_default c = sym (when_false _ _ _ (ne_eqb _ state_size c.in_default.ensures.cases))

@@ -1,12 +1,14 @@
-use mathlib.Core.Path.{sym}
-use Rattle.lists.proofs.Laws.{when_true, when_false}
-use Rattle.tally.specs.Sums.{packets_by}
+use Rattle.std.proofs.Common.{◌≡◌, ◌∙◌, refl, Bool, true, false}
+use Rattle.std.specs.Int.{from_bool}
+use Rattle.lists.specs.Tests.{when◌then◌else◌}
+use Rattle.tally.specs.Sums.{is_found, packets_by}
 use Rattle.tally.proofs.packets.Goals as goal
 
-pub returns-then-number : goal.returns-then-number
-unfolding packets_by
-returns-then-number c = sym (when_true _ _ _ c.if-number.true)
+one_or_none : (found : Bool) → from_bool found ≡ when found then 1 else 0
+unfolding when◌then◌else◌
+one_or_none true = refl
+one_or_none false = refl
 
-pub returns-else-number : goal.returns-else-number
+pub returns : goal.returns
 unfolding packets_by
-returns-else-number c = sym (when_false _ _ _ c.if-number.false)
+returns c = c.from.ensures ∙ one_or_none (is_found c.args.number)

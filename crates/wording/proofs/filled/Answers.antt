@@ -1,41 +1,34 @@
-use Prim.Native.Nat.{ℕ, ◌+◌}
-use mathlib.Core.Path.{refl, sym, ◌∙◌, ap}
-use native.Mathlib.Omega.{arith}
-use lib.ListN.{drop}
-use borrow.Author.Rules.{rules}
-use Rattle.wording.specs.Text.{Text, text, ◌then◌, decimal, form_behind}
+use Rattle.std.proofs.Common.{◌≡◌, sym, ◌∙◌, get_or, rules, arith}
+use Rattle.wording.specs.Text.{text}
 use Rattle.wording.proofs.Laws.{mark_turn, byte_turn, form_end}
 use Rattle.wording.proofs.filled.Goals as goal
+use Rattle.wording.proofs.filled.Goals.{then-b-eq37, else-b-eq37}
 
-pub loop-i-init : goal.loop-i-init
-loop-i-init c = (search rules, search rules, refl, refl)
-
-pub loop-i-preserved-then-form-i-eq37 : goal.loop-i-preserved-then-form-i-eq37
-loop-i-preserved-then-form-i-eq37 c =
-    let l = c.loop-i in
+pub loop-b-preserved : goal.loop-b-preserved
+loop-b-preserved c =
+    let l = c.loop-b in
     let a = c.args in
     let t = text l.out l.n in
-    let told = c.number-n.ensures ∙ ap (λ (n : ℕ). t then decimal n) c.nth.ensures in (
-      omega arith,
-      omega arith,
-      c.number-n.auto.out ∙ l.invariant.2,
-      ap (λ (u : Text). form_behind u (drop (l.i + 1) a.form.now) (drop (l.k + 1) a.numbers.now)) told
-          ∙ sym (mark_turn t a.form.now a.numbers.now l.i l.k (omega arith) c.if-form-i-eq37.true) ∙ l.invariant.3,
-    )
+    elim c.if-b-eq37.branch [
+      | then-b-eq37 w ↦
+          let number : w.unwrap_or.result ≡ get_or a.numbers.now l.k 0 = search rules in
+          record {
+            counted = omega arith;
+            inside = rw (w.n-is, w.out-is) w.number-n.ensures.inside;
+            rest = rw (w.out-is, w.n-is, w.k-is, w.number-n.ensures.added, number)
+                (sym (mark_turn t a.form.now a.numbers.now l.b-index l.k (omega arith) w.if-b-eq37.true) ∙ l.invariant.rest);
+          }
+      | else-b-eq37 w ↦
+          record {
+            counted = omega arith;
+            inside = rw (w.n-is, w.out-is) w.word-n.ensures.inside;
+            rest = rw (w.out-is, w.n-is, w.k-is, w.word-n.ensures.added)
+                (sym (byte_turn t a.form.now a.numbers.now l.b-index l.k (omega arith) w.if-b-eq37.false) ∙ l.invariant.rest);
+          }
+    ]
 
-pub loop-i-preserved : goal.loop-i-preserved
-loop-i-preserved c =
-    let l = c.loop-i in
-    let a = c.args in (
-      omega arith,
-      omega arith,
-      c.byte-n.auto.out ∙ l.invariant.2,
-      ap (λ (u : Text). form_behind u (drop (l.i + 1) a.form.now) (drop l.k a.numbers.now)) c.byte-n.ensures
-          ∙ sym (byte_turn (text l.out l.n) a.form.now a.numbers.now l.i l.k (omega arith) c.if-form-i-eq37.false) ∙ l.invariant.3,
-    )
-
-pub returns : goal.returns
-returns c =
-    let l = c.loop-i in
+pub returns-clause-filled : goal.returns-clause-filled
+returns-clause-filled c =
+    let l = c.loop-b in
     let a = c.args in
-    sym (form_end (text l.out l.n) a.form.now a.numbers.now l.i l.k (omega arith)) ∙ l.invariant.3
+    sym (form_end (text l.out l.n) a.form.now a.numbers.now l.b-index l.k (omega arith)) ∙ l.invariant.rest

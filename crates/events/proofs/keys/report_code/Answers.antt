@@ -4,7 +4,6 @@ use mathlib.Core.Bool.{true, and-eq-true_iff}
 use mathlib.Core.List.{List, [], ◌∷◌}
 use native.Mathlib.Omega.{arith}
 use lib.ListN.{get_or}
-use borrow.Author.Rules.{rules}
 use borrow.Author.Tests.{leb-true}
 use Rattle.lists.specs.Tests.{◌≤?◌, all, all_at_most}
 use Rattle.events.proofs.keys.report_code.Goals as goal

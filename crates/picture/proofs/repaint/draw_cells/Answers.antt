@@ -1,25 +1,23 @@
 use mathlib.Core.Path.{◌≡◌, refl, ◌∙◌}
-use Rattle.picture.specs.Draw.{screen, paint}
+use native.Mathlib.Omega.{arith}
+use Rattle.picture.specs.Draw.{screen_of, paint}
 use Rattle.picture.proofs.Paints.{drawn_over}
 use Rattle.picture.proofs.Turns.{drawn_turn}
-use native.Mathlib.Omega.{arith}
-use borrow.Author.Rules.{rules}
 use Rattle.picture.proofs.repaint.draw_cells.Goals as goal
 
-pub loop-n-init : goal.loop-n-init
+pub loop-cell-init : goal.loop-cell-init
 unfolding paint
-loop-n-init c = (search rules, refl, refl)
+loop-cell-init c = refl
 
-pub loop-n-preserved : goal.loop-n-preserved
-loop-n-preserved c =
+pub loop-cell-preserved : goal.loop-cell-preserved
+loop-cell-preserved c =
     let a = c.args in
-    let l = c.loop-n in
-    let p = c.put_cell in
-    (search rules, drawn_turn (screen a.text.now a.glyphs) a.font.now a.picture.now l.picture _ _ l.n c.draw.ensures l.invariant.1 p.ensures, p.auto.picture ∙ l.invariant.2)
+    let l = c.loop-cell in
+    drawn_turn (screen_of a.s.now) a.font.now a.picture.now l.picture _ _ l.cell c.draw.ensures l.invariant c.put_cell.ensures
 
 pub returns : goal.returns
 returns c =
     let a = c.args in
-    let l = c.loop-n in
-    let e : l.n ≡ 80 = omega arith in
-    (rw e at l.invariant.1) ∙ drawn_over (screen a.text.now a.glyphs) a.font.now a.picture.now c.requires.0
+    let l = c.loop-cell in
+    let e : l.cell ≡ 80 = omega arith in
+    (rw e at l.invariant) ∙ drawn_over (screen_of a.s.now) a.font.now a.picture.now c.told-picture

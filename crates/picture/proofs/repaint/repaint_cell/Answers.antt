@@ -1,20 +1,22 @@
-use mathlib.Core.Path.{refl, sym}
-use lib.ListN.{get_or}
-use Rattle.lists.specs.Tests.{when◌then◌else◌}
-use Rattle.picture.specs.Draw.{code_drawn}
+use mathlib.Core.Path.{◌∙◌}
+use Rattle.picture.specs.Draw.{screen_of, cell_drawn}
+use Rattle.picture.proofs.Changes.{alike_eight}
+use Rattle.picture.proofs.Paints.{length_cell}
 use Rattle.picture.proofs.Turns.{cell_left, cell_written}
 use Rattle.picture.proofs.repaint.repaint_cell.Goals as goal
 
-pub returns-then-alike_first : goal.returns-then-alike_first
-returns-then-alike_first c =
+pub returns-then-eq : goal.returns-then-eq
+returns-then-eq c =
     let a = c.args in
-    cell_left a.cell (code_drawn a.before a.font.now (get_or a.old.now a.cell 0)) (code_drawn a.after a.font.now (get_or a.new.now a.cell 0)) a.picture.now _ _ _ c.draw-was.ensures c.draw-bytes.ensures c.alike_first.ensures c.if-alike_first.true
-
-pub returns-then-look : goal.returns-then-look
-returns-then-look c =
-    let a = c.args in
-    cell_written a.cell (code_drawn a.before a.font.now (get_or a.old.now a.cell 0)) (code_drawn a.after a.font.now (get_or a.new.now a.cell 0)) a.picture.now _ _ _ c.draw-was.ensures c.draw-bytes.ensures c.alike_first.ensures _ c.if-alike_first.false c.put_cell.ensures
+    let was = screen_of a.before.now in
+    let is = screen_of a.after.now in
+    let same = rw (c.draw-was.ensures, c.draw-bytes.ensures) at c.eq.ensures ∙ alike_eight _ _ (length_cell was a.font.now a.cell) (length_cell is a.font.now a.cell) in
+    cell_left a.cell (cell_drawn was a.font.now a.cell) (cell_drawn is a.font.now a.cell) a.picture.now _ same c.if-eq.true
 
 pub returns : goal.returns
-unfolding when◌then◌else◌
-returns c = (sym (c.requires.4 c.if-look.false c.args.font.now), refl)
+returns c =
+    let a = c.args in
+    let was = screen_of a.before.now in
+    let is = screen_of a.after.now in
+    let same = rw (c.draw-was.ensures, c.draw-bytes.ensures) at c.eq.ensures ∙ alike_eight _ _ (length_cell was a.font.now a.cell) (length_cell is a.font.now a.cell) in
+    cell_written a.cell (cell_drawn was a.font.now a.cell) (cell_drawn is a.font.now a.cell) a.picture.now _ same _ c.if-eq.false (rw c.draw-bytes.ensures at c.put_cell.ensures)

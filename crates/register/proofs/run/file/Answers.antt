@@ -1,12 +1,22 @@
-use Rattle.register.proofs.Filings.{files_refused, files_not}
+use Rattle.std.proofs.Common.{◌≤◌, length, refl, arith}
+use borrow.Author.Tests.{lt-ltb, le-ltb}
+use Rattle.lists.specs.Tests.{when◌then◌else◌}
+use Rattle.filing.specs.Filing.{slot, filed_at, filed, filed_if}
 use Rattle.register.proofs.run.file.Goals as goal
 
-pub returns-then-refused : goal.returns-then-refused
-returns-then-refused c =
-    let a = c.args in
-    files_refused a.register.now a.k a.unfiled a.refused c.if-refused.true _ _ (rw (← c.find-i.ensures) c.bump.ensures)
+pub returns-in_default : goal.returns-in_default
+unfolding filed_if
+returns-in_default c = rw c.in_default.is (refl, refl)
 
-pub returns-else-refused : goal.returns-else-refused
-returns-else-refused c =
-    let a = c.args in
-    files_not a.register.now a.k a.unfiled a.refused c.if-refused.false
+pub returns-in_default-find : goal.returns-in_default-find
+unfolding filed_if filed filed_at when◌then◌else◌
+returns-in_default-find c =
+    let n = length c.args.register.now in
+    let h : n ≤ slot c.in-Some.k c.args.register.now = omega (arith, c.in_default-find.ensures) in
+    rw (c.in-Some.is, le-ltb _ _ h, c.unfiled_more.ensures) (refl, refl)
+
+pub returns : goal.returns
+unfolding filed_if filed filed_at when◌then◌else◌
+returns c =
+    let s = c.in-Some-find.ensures in
+    rw (c.in-Some.is, s.0, lt-ltb _ _ s.1, c.filed_in-q.ensures) (refl, refl)

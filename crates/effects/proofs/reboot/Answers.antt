@@ -1,4 +1,0 @@
-use Rattle.effects.proofs.reboot.Goals as goal
-
-pub returns : goal.returns
-returns c = rw (c.poll-keys.ensures, c.search-sets.ensures)

@@ -1,4 +1,0 @@
-use Rattle.effects.proofs.write_flash.Goals as goal
-
-pub returns : goal.returns
-returns c = rw c.paste.ensures

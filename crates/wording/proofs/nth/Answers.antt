@@ -1,6 +1,0 @@
-use mathlib.Core.Path.{sym}
-use lib.ListN.{get_or-eq_default}
-use Rattle.wording.proofs.nth.Goals as goal
-
-pub returns-else-k-numbers : goal.returns-else-k-numbers
-returns-else-k-numbers c = sym (get_or-eq_default c.args.numbers.now 0 c.if-k-numbers.false)
