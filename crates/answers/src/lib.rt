@@ -27,7 +27,7 @@ pub enum Check {
 
 // A stray, a done command and a refused packet carry the command, a refused packet its reason and place too; a call that is
 // refused by number carries the check that failed.
-// Kept: the three parts of a refusal stand by themselves, as `done_says` and the definitions of a call speak of them.
+// Kept: the three parts of a refusal stand by themselves, as `refused_changes_only` and the definitions of a call speak of them.
 #[derive(Clone, Copy)]
 pub enum Answer {
     Waiting,

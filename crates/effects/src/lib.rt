@@ -94,7 +94,7 @@ fn write_text(s: Shown, content: &[u8]) -> Shown
 }
 
 // The bytes with one of them set; where there is none at that place, as they are.
-// Kept: by value; shapes' `lay_byte` writes into what is lent, and effects does not stand on it.
+// Kept: by value, as `set` says it; with shapes' `lay_byte` a copy would have to be made first, which is no plainer.
 fn with_byte<const N: usize>(mut bytes: [u8; N], place: usize, byte: u8) -> [u8; N]
     ensures { result ≡ set bytes.entry place byte }
 {

@@ -10,7 +10,7 @@ mod words;
 pub const ONES: u16 = 65535;
 
 // A step by the table: the high byte moves down, and is xored with the word whose number is the low byte xored with the new one.
-// Kept: the step by / and %, as `after_byte` says it.
+// Kept: the step by / and %, as `byte_step` (proofs/Steps.antt) says it; by >> and & it is no plainer.
 fn byte(c: u16, b: u8) -> u16
     ensures { result ≡ after_byte c b }
 {

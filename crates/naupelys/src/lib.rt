@@ -52,6 +52,7 @@ fn ended(state: &mut [u8], s: Said, said: &mut [u8; SAID]) -> u8
 }
 
 // The panel at power-on. It needs no state that can be read, only the room for one.
+// Kept: four parameters, which are the C interface's naupelys_power_on.
 pub fn naupelys_power_on(
     state: &mut [u8],
     picture: &mut [u8],

@@ -9,6 +9,7 @@ ghost use Rattle.linebytes.specs.Line.{records_in, LineBytes};
 use saidbytes::SAID;
 
 // The panel at power-on. It needs no state that can be read, only the room for one.
+// Kept: four parameters, which are the C interface's naupelys_power_on.
 #[unsafe(no_mangle)]
 pub extern "C" fn naupelys_power_on(
     state: &mut [u8],

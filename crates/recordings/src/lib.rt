@@ -34,25 +34,18 @@ pub const PANEL: u8 = 1;
 // cut short.
 #[derive(Clone, Copy, PartialEq, Eq)]
 pub enum Flaw {
-    TooLong,
-    Mark,
-    Version,
-    Direction,
-    CutShort,
+    TooLong = 22,
+    Mark = 23,
+    Version = 24,
+    Direction = 25,
+    CutShort = 26,
 }
 
-// Kept: a match, so that each number stands beside its flaw, as in the paper's list.
 impl From<Flaw> for u8 {
     ghost from_gives = { NumbersFlaw };
 
     fn from(flaw: Flaw) -> u8 {
-        match flaw {
-            Flaw::TooLong => 22,
-            Flaw::Mark => 23,
-            Flaw::Version => 24,
-            Flaw::Direction => 25,
-            Flaw::CutShort => 26,
-        }
+        flaw as u8
     }
 }
 
@@ -252,7 +245,8 @@ pub fn in_entry(recording: &[u8], at: usize, place: usize) -> Option<Found>
 }
 
 // The first packet from a place on, entry by entry.
-// Kept: `find_map` does not say that the item at which it stops gave Some, so that its proof does not close.
+// Kept: with `find_map` the proof does not close: only of a run does it say that the item at which it stops gave Some, and std has no
+// lemma that reads the run of an iterator of our own as a list.
 fn seek(recording: &[u8], place: usize) -> Option<Found>
     ensures { result ≡ first_packet recording.now place (entries_of recording.now entries_start) }
 {

@@ -1,4 +1,4 @@
-// The functions over the run of records itself.
+// Filing in the run of records.
 ghost use Rattle.register.specs.Run.{FilesIn, FilesBack};
 
 use crate::search::find;

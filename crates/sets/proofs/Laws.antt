@@ -45,18 +45,6 @@ draws_special glyph (font code) = (λ e. absurd (false≢true e), λ e. let z : 
 abbrev pub Marked : List ℕ → List ℕ → ℕ → Type 0
 Marked text sets n = (cell : ℕ) → cell < n → get_or sets cell 0 ≡ mark_of (get_or text cell 0)
 
--- what `array::from_fn` made of a closure whose calls leave it as it is
-module _ {F B : Type 0} (g : Mut F (ℕ × Unit {0}) B) (f : F) (h : ℕ → B) (same : (i : ℕ) (y : B) (q : F) → Called g f (i, tt) y q → (q ≡ f) × (y ≡ h i)) where
-  made_from : (ys : List B) (i n : ℕ) → IsFromFnResultFrom g f ys i n → (k : ℕ) (d : B) → i ≤ k → k < i + n → get_or ys k d ≡ h k
-  made_from ys i zero made k d low high = absurd (omega arith)
-  made_from ys i (suc n) made k d low high =
-      let s = same i made.1 made.0 made.3 in
-      dite (ℕ_discrete k i) (λ e. rw e (made.2.1 d ∙ s.1))
-      (λ e. made_from ys (i + 1) n (subst (λ (q : F). IsFromFnResultFrom g q ys (i + 1) n) s.0 made.4) k d (omega arith) (omega arith))
-
-  pub made_at : (ys : List B) (n : ℕ) → IsFromFnResult g f ys n → (k : ℕ) (d : B) → k < n → get_or ys k d ≡ h k
-  made_at ys n made k d l = made_from ys 0 n made.each k d (omega arith) (omega arith)
-
 pub marked_all : (text sets : List ℕ) → length sets ≡ length text → Marked text sets (length text) → sets ≡ searched text
 marked_all text sets size m =
     ext_get_or 0 sets (searched text) (size ∙ sym (length-map text mark_of)) (λ cell h. m cell (omega arith) ∙ sym (searched_at text cell (omega arith)))

@@ -45,7 +45,7 @@ pub fn read_line(state: &[u8]) -> Line
     }
 }
 
-// Kept: the remainder says that a count has one byte of the state; of eight bytes by `to_le_bytes` seven would be let go.
+// Kept: the remainder says what the state's one byte keeps of a count; `as u8` alone would not show it.
 fn lay_line(state: &mut [u8; SIZE], l: Line)
     ensures { Lays line_shape (line_parts l) state.old 0 state.new }
 {

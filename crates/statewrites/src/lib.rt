@@ -13,6 +13,7 @@ use statebytes::places::{
     BOOT, COLUMN, CONFIGS, DOWN, FLASH, GLYPHS, LAST, LEVELS, LIVE, PRESS, SETS, SIZE, STYLE, TEXT,
 };
 
+// Kept: a part of the state is lent as a slice; an array would be made of it first, with a case in which it is none.
 fn lay_settings(out: &mut [u8], s: Settings)
     requires { length out.old ≡ size settings_shape }
     ensures { Lays settings_shape (settings_parts s) out.old 0 out.new }

@@ -11,7 +11,7 @@ use panel::Panel;
 use sets::CELLS;
 
 // The set of a glyph at the front of the list, rising, and how many cells it has.
-// Kept: the place of the next cell is the count that the call gives back.
+// Kept: the place of the next cell is the count that the call gives back; the list is a slice, since one contract alone speaks of its 80.
 fn list_cells(sets: [u8; CELLS], glyph: u8, list: &mut [u8]) -> usize
     requires { (glyph ≤ 7) × (length list.old ≡ 80) }
     ensures { ListsCells sets glyph list.old result list.new }

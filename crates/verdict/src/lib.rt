@@ -10,25 +10,18 @@ use table::Rule;
 // The reasons, in the order in which they are looked for.
 #[derive(Clone, Copy, PartialEq, Eq)]
 pub enum Reason {
-    UnknownCommand,
-    LengthNotAllowed,
-    DataOutOfRange,
-    PastColumn19,
-    NotTheReboot,
+    UnknownCommand = 1,
+    LengthNotAllowed = 2,
+    DataOutOfRange = 3,
+    PastColumn19 = 4,
+    NotTheReboot = 5,
 }
 
-// Kept: a match, so that each number stands beside its reason, as in the paper's list.
 impl From<Reason> for u8 {
     ghost from_gives = { GivesNumber };
 
     fn from(reason: Reason) -> u8 {
-        match reason {
-            Reason::UnknownCommand => 1,
-            Reason::LengthNotAllowed => 2,
-            Reason::DataOutOfRange => 3,
-            Reason::PastColumn19 => 4,
-            Reason::NotTheReboot => 5,
-        }
+        reason as u8
     }
 }
 

@@ -1,6 +1,7 @@
 use Rattle.std.proofs.Common.{ℕ, rules, arith, ◌∙◌, sym, ◌≡◌, length, get_or}
 use Rattle.sets.specs.Sets.{mark_of}
-use Rattle.sets.proofs.Laws.{made_at, marked_all}
+use Rattle.lists.proofs.Made.{made_at}
+use Rattle.sets.proofs.Laws.{marked_all}
 use Rattle.sets.proofs.search.Goals as goal
 
 pub returns : goal.returns

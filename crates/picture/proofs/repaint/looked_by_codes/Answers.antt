@@ -1,7 +1,7 @@
 use mathlib.Core.Bool.{false}
 use native.Mathlib.Omega.{arith}
 use borrow.Author.Rules.{rules}
-use Rattle.sets.proofs.Laws.{made_at}
+use Rattle.lists.proofs.Made.{made_at}
 use Rattle.picture.specs.Repaint.{looks_by_codes}
 use Rattle.picture.proofs.repaint.looked_by_codes.Goals as goal
 
