@@ -1,10 +1,12 @@
 // Words, numbers and bytes as text.
-ghost use Rattle.std.specs.Prelude.{◌≤◌, length};
+ghost use Rattle.std.specs.Prelude.{◌≤◌, length, IfSome};
 
 use std::io::Stdout;
 
 // The value of a hexadecimal digit.
-fn digit(b: u8) -> Option<u8> {
+fn digit(b: u8) -> Option<u8>
+    ensures { IfSome result (λ d. d ≤ 15) }
+{
     match b {
         b'0'..=b'9' => Some(b - b'0'),
         b'A'..=b'F' => Some(b - b'A' + 10),
@@ -16,7 +18,7 @@ fn digit(b: u8) -> Option<u8> {
 fn spelt(high: u8, low: u8) -> Option<u8> {
     let high = digit(high)?;
     let low = digit(low)?;
-    Some(high.wrapping_mul(16) | low)
+    Some(high * 16 + low)
 }
 
 // The bytes that `s` spells in pairs of hexadecimal digits, as many as `out` has room for; whatever else stands in `s` is

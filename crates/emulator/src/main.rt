@@ -17,7 +17,7 @@ use std::env::{Env, FillError};
 use std::fs::File;
 use std::io;
 use std::io::{Read, Stderr, Write};
-use tape::Tape;
+use tape::{BothWaiting, Tape};
 use telling::{is_unread, say};
 
 // Room for the name of a recording, as long as the system takes one.
@@ -93,6 +93,7 @@ fn hear<R: Print + Eprint + AllocGlobal, I: Read, W: Write + Drop>(
     desk: &mut Desk,
 ) {
     let mut piece = [0u8; PIECE];
+    let mut waiting = BothWaiting::none();
     let mut s = kept::started();
     for steps in 0..u64::MAX {
         if !going(steps, s.over) {
@@ -100,14 +101,14 @@ fn hear<R: Print + Eprint + AllocGlobal, I: Read, W: Write + Drop>(
         }
         s = desk.step(s, input, &mut piece);
         let came = match tape {
-            Some(t) => t.hear(s, &piece, desk),
+            Some(t) => t.hear(&mut waiting, s, &piece, desk),
             None => Ok(()),
         };
         tape::kept_on(rt, tape, came);
         s = told(rt, glass, s, desk);
     }
     let came = match tape {
-        Some(t) => t.write(),
+        Some(t) => t.write(&mut waiting),
         None => Ok(()),
     };
     tape::kept_on(rt, tape, came);

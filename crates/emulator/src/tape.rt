@@ -34,20 +34,35 @@ struct Waiting {
     count: usize,
 }
 
-// The recording: its file, how many bytes that has, and what waits to be written.
-#[derive(Drop)]
-pub struct Tape<W> {
-    file: W,
-    size: usize,
+// What waits of the host and of the panel. It stands beside the recording, and is lent to it, since it is too large to be handed on.
+#[derive(Clone, Copy)]
+pub struct BothWaiting {
     host: Waiting,
     panel: Waiting,
 }
 
-fn none(direction: u8) -> Waiting {
-    Waiting {
-        direction,
-        entry: [0; LONGEST],
-        count: 0,
+// The recording: its file, and how many bytes that has.
+#[derive(Clone, Copy, Drop)]
+pub struct Tape<W> {
+    file: W,
+    size: usize,
+}
+
+impl BothWaiting {
+    // Nothing waits.
+    pub fn none() -> BothWaiting {
+        BothWaiting {
+            host: Waiting {
+                direction: HOST,
+                entry: [0; LONGEST],
+                count: 0,
+            },
+            panel: Waiting {
+                direction: PANEL,
+                entry: [0; LONGEST],
+                count: 0,
+            },
+        }
     }
 }
 
@@ -96,8 +111,6 @@ pub fn begin<R: Files + Eprint + AllocGlobal>(rt: &R, name: &str) -> Option<Tape
     Some(Tape {
         file,
         size: ENTRIES,
-        host: none(HOST),
-        panel: none(PANEL),
     })
 }
 
@@ -133,21 +146,27 @@ fn taken(s: Session, piece: &[u8]) -> &[u8] {
 
 impl<W: Write> Tape<W> {
     // What waits is written: an entry of the host, and behind it one of the panel.
-    pub fn write(&mut self) -> Result<(), Ended> {
-        self.size = self.host.write(&mut self.file, self.size)?;
-        self.size = self.panel.write(&mut self.file, self.size)?;
+    pub fn write(&mut self, waiting: &mut BothWaiting) -> Result<(), Ended> {
+        self.size = waiting.host.write(&mut self.file, self.size)?;
+        self.size = waiting.panel.write(&mut self.file, self.size)?;
         Ok(())
     }
 
     // A call more: what it took and what it replied waits, until nothing is held.
-    pub fn hear(&mut self, s: Session, piece: &[u8; PIECE], desk: &Desk) -> Result<(), Ended> {
+    pub fn hear(
+        &mut self,
+        waiting: &mut BothWaiting,
+        s: Session,
+        piece: &[u8; PIECE],
+        desk: &Desk,
+    ) -> Result<(), Ended> {
         if s.over {
             return Ok(());
         }
-        self.host.add(self.size, taken(s, piece))?;
-        self.panel.add(self.size, crate::replied(s, desk))?;
+        waiting.host.add(self.size, taken(s, piece))?;
+        waiting.panel.add(self.size, crate::replied(s, desk))?;
         if desk.held() == 0 {
-            self.write()
+            self.write(waiting)
         } else {
             Ok(())
         }

@@ -1,6 +1,5 @@
 // Key events.
 ghost use Rattle.std.specs.Prelude.{◌≡◌, ◌≤◌, OnOk};
-ghost use Rattle.ranges.specs.Ranges.{in_ranges};
 ghost use Rattle.answers.specs.Checks.{checked_by};
 ghost use Rattle.events.specs.Keys.{key_event, mask_for, report_code, as_told, key_tests, ReportsBy, Presses};
 
@@ -67,21 +66,22 @@ fn report(mask: u8, number: u8, down: bool, reply: &mut [u8]) -> usize
 }
 
 // The checks of a key call, in the order of their numbers.
-fn checked(p: Panel, number: u32, down: bool, reply: usize) -> Result<(), Check>
-    ensures first { result ≡ checked_by (key_tests (in_ranges p) reply number down p.body.keys) }
+// Kept: whether the panel is in its ranges is asked before, since a panel by value would be copied once more.
+fn checked(in_ranges: bool, keys: Keys, number: u32, down: bool, reply: usize) -> Result<(), Check>
+    ensures first { result ≡ checked_by (key_tests in_ranges reply number down keys) }
     ensures known { OnOk result (number ≤ 5) }
 {
-    let state = also(Ok(()), ranges::in_ranges(p), Check::StateRange);
+    let state = also(Ok(()), in_ranges, Check::StateRange);
     let room = also(state, reply == REPLY, Check::ReplySize);
     let known = also(room, number <= 5, Check::KeyOrPin);
-    also(known, !as_told(p.body.keys, number, down), Check::KeyAsTold)
+    also(known, !as_told(keys, number, down), Check::KeyAsTold)
 }
 
 // A key goes down or up. Its report, if the mask asks for one, is written into the front of the reply buffer.
 pub fn key(mut p: Panel, number: u32, down: bool, reply: &mut [u8]) -> Said
     ensures { Presses p number down reply.old result reply.new }
 {
-    match checked(p, number, down, reply.len()) {
+    match checked(ranges::in_ranges(p), p.body.keys, number, down, reply.len()) {
         Err(check) => nothing_taken(p, Answer::CallRefused(check), 0),
         Ok(()) => {
             let n = number as u8;

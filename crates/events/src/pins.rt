@@ -1,6 +1,5 @@
 // Pin events.
 ghost use Rattle.std.specs.Prelude.{◌≡◌, ◌<◌, ◌≤◌, OnOk};
-ghost use Rattle.ranges.specs.Ranges.{in_ranges};
 ghost use Rattle.answers.specs.Checks.{checked_by};
 ghost use Rattle.events.specs.Pins.{pin_event, pin_tests, Moves};
 
@@ -29,11 +28,12 @@ fn after_event(p: Pins, number: u8, high: bool) -> Pins
 }
 
 // The checks of a pin call, in the order of their numbers.
-fn checked(p: Panel, number: u32) -> Result<(), Check>
-    ensures first { result ≡ checked_by (pin_tests (in_ranges p) number) }
+// Kept: whether the panel is in its ranges is asked before, as for a key.
+fn checked(in_ranges: bool, number: u32) -> Result<(), Check>
+    ensures first { result ≡ checked_by (pin_tests in_ranges number) }
     ensures known { OnOk result (number ≤ 4) }
 {
-    let state = also(Ok(()), ranges::in_ranges(p), Check::StateRange);
+    let state = also(Ok(()), in_ranges, Check::StateRange);
     also(state, number <= 4, Check::KeyOrPin)
 }
 
@@ -41,7 +41,7 @@ fn checked(p: Panel, number: u32) -> Result<(), Check>
 pub fn pin(mut p: Panel, number: u32, high: bool) -> Said
     ensures { Moves p number high result }
 {
-    match checked(p, number) {
+    match checked(ranges::in_ranges(p), number) {
         Err(check) => nothing_taken(p, Answer::CallRefused(check), 0),
         Ok(()) => {
             p.body.pins = after_event(p.body.pins, number as u8, high);

@@ -2,6 +2,7 @@
 #![tactic(auto)]
 
 ghost use Rattle.std.specs.Prelude.{◌≡◌, ◌+◌, ◌<◌, ◌≤◌, length};
+ghost use Rattle.lists.specs.Runs.{pasted};
 ghost use Rattle.packets.specs.Hold.{HoldsNothing};
 ghost use Rattle.packets.specs.Judge.{length_byte, checksum_right, Judges};
 ghost use Rattle.packets.specs.Packet.{content_most, Composes};
@@ -79,6 +80,17 @@ pub struct Packet {
     pub content: [u8; CONTENT],
 }
 
+// Data bytes behind a packet's type and length.
+// Kept: both runs may be the caller's, so that a copy of the whole would have the archive ask C for memmove.
+fn lay_content(out: &mut [u8], content: &[u8])
+    requires { length content.now + 2 ≤ length out.old }
+    ensures { out.new ≡ pasted out.old 2 content.now }
+{
+    for (i, byte) in content.iter().enumerate() {
+        out[2 + i] = *byte;
+    }
+}
+
 // The packet of a type and data bytes at the front of a lent buffer of 26, and its length. A buffer of another size, or
 // more than 22 data bytes: nothing is written, and the length is 0.
 // Kept: a length of 0 says that nothing is written, as a call does that replies nothing: `Composes` says it, and the C calls pass it on.
@@ -91,7 +103,7 @@ pub fn compose(out: &mut [u8], kind: u8, content: &[u8]) -> usize
     }
     out[0] = kind;
     out[1] = size as u8;
-    lists::paste(out, 2, content);
+    lay_content(out, content);
     let sum = fcs::checksum(&out[..size + 2]);
     lists::paste(out, size + 2, &sum.to_le_bytes());
     size + 4

@@ -1,17 +1,15 @@
 -- What a code draws, source by source, and when two drawings are alike.
-use Prim.Native.Nat.{ℕ, zero, suc, ◌-◌, ◌*◌, ◌/◌, ◌%◌}
-use mathlib.Core.Path.{◌≡◌, refl, subst}
+use Prim.Native.Nat.{ℕ, zero, suc, ◌-◌, ◌*◌, ◌%◌}
+use mathlib.Core.Path.{◌≡◌, refl}
 use mathlib.Core.Bool.{Bool, true, false, not, ◌&&◌, ◌||◌}
 use mathlib.Core.List.{List, [], ◌∷◌}
 use native.Mathlib.Numerals.{add-one}
 use native.Mathlib.Omega.{arith}
 use borrow.Author.Tests.{eqb-true, not-true}
-use lib.ListN.{length, get_or}
+use lib.ListN.{get_or}
 use Rattle.lists.specs.Tests.{◌=?◌}
 use Rattle.lists.proofs.Laws.{when_true, when_false}
-use Rattle.std.specs.Simd.{first_chunks}
-use Rattle.glyphs.specs.Glyphs.{eight_from, nested_of}
-use Rattle.glyphs.proofs.Flat.{all_elements}
+use Rattle.glyphs.specs.Glyphs.{eight_from}
 use Rattle.glyphs.specs.Source.{Source, special, font, is_special, source_of}
 use Rattle.sets.specs.Sets.{mark_for, mark_of, searched}
 use Rattle.sets.proofs.Laws.{mark_small}
@@ -58,10 +56,3 @@ pub searched_marks : (text : List ℕ) → Marks (searched text)
 searched_marks [] cell = omega arith
 searched_marks (code ∷ text) zero = mark_small code
 searched_marks (code ∷ text) (suc cell) = searched_marks text cell
-
--- the special glyphs as the code reads them: the flat ones in chunks of eight
-pub chunks_nested : (flat : List ℕ) → length flat ≡ 64 → first_chunks 8 (length flat / 8) flat ≡ nested_of flat
-unfolding nested_of
-chunks_nested flat h =
-    let d : length flat / 8 ≡ 8 = omega arith in
-    rw d (subst (λ (f : List ℕ). first_chunks 8 8 f ≡ nested_of f) (all_elements 0 flat 0 64 h) refl)

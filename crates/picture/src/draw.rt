@@ -19,8 +19,7 @@ pub fn glyph(s: &Shown, number: usize) -> [u8; ROWS]
     requires { number < 8 }
     ensures { result ≡ get_or (nested_of s.now.glyphs) number [] }
 {
-    let (glyphs, _) = s.glyphs.as_chunks();
-    glyphs[number]
+    glyphs::nested(s.glyphs)[number]
 }
 
 // The eight bytes that a cell draws.

@@ -113,9 +113,11 @@ fn is_marked(recording: &[u8]) -> bool
 fn low16(bytes: &[u8]) -> usize
     ensures { (result ≡ get_or bytes.now 0 0 + 256 * get_or bytes.now 1 0) × (result < 65536) }
 {
-    let low = bytes.first().copied().unwrap_or(0);
-    let high = bytes.get(1).copied().unwrap_or(0);
-    usize::from(u16::from_le_bytes([low, high]))
+    match bytes {
+        [low, high, ..] => usize::from(u16::from_le_bytes([*low, *high])),
+        [low] => usize::from(*low),
+        [] => 0,
+    }
 }
 
 #[tactic(auto, unfolding(crate::specs::Recording::versioned))]

@@ -2,7 +2,7 @@
 // in, 0 where it is in none. So the test of 80 cells, which every call makes, is a few steps for sixteen cells at a time.
 #![tactic(auto)]
 
-ghost use Rattle.std.specs.Prelude.{◌≡◌};
+ghost use Rattle.std.specs.Prelude.{◌≡◌, ◌<◌, get_or};
 ghost use Rattle.sets.specs.Sets.{mark_of, Searches, ComparesSets};
 
 use std::array;
@@ -29,7 +29,12 @@ fn mark_of(code: u8) -> u8
 pub fn search(text: [u8; CELLS]) -> [u8; CELLS]
     ensures { Searches text result }
 {
-    array::from_fn(|cell| mark_of(text[cell]))
+    array::from_fn(
+        |cell| -> u8
+            requires { cell < CELLS }
+            ensures { result ≡ mark_of (get_or text cell 0) }
+        { mark_of(text[cell]) },
+    )
 }
 
 // Whether the sets are those that a search of the text finds. No cell ends the test, so that it goes sixteen cells at a time.

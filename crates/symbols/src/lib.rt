@@ -2,7 +2,6 @@
 #![tactic(auto)]
 
 ghost use Rattle.std.specs.Prelude.{◌≡◌, ◌≤◌, length, OnOk};
-ghost use Rattle.ranges.specs.Ranges.{in_ranges};
 ghost use Rattle.answers.specs.Checks.{checked_by};
 ghost use Rattle.symbols.specs.Symbols.{cells_tests, ListsCells, TellsCells};
 
@@ -27,11 +26,12 @@ fn list_cells(sets: [u8; CELLS], glyph: u8, list: &mut [u8]) -> usize
 }
 
 // The checks of a call: the glyph comes before the list's size.
-fn checked(p: Panel, glyph: u32, list: usize) -> Result<(), Check>
-    ensures first { result ≡ checked_by (cells_tests (in_ranges p) glyph list) }
+// Kept: whether the panel is in its ranges is asked before, as for a key.
+fn checked(in_ranges: bool, glyph: u32, list: usize) -> Result<(), Check>
+    ensures first { result ≡ checked_by (cells_tests in_ranges glyph list) }
     ensures fits { OnOk result ((glyph ≤ 7) × (list ≡ 80)) }
 {
-    let state = also(Ok(()), ranges::in_ranges(p), Check::StateRange);
+    let state = also(Ok(()), in_ranges, Check::StateRange);
     let known = also(state, glyph <= 7, Check::GlyphNumber);
     also(known, list == CELLS, Check::ListSize)
 }
@@ -40,7 +40,7 @@ fn checked(p: Panel, glyph: u32, list: usize) -> Result<(), Check>
 pub fn cells(p: Panel, glyph: u32, list: &mut [u8]) -> Said
     ensures { TellsCells p glyph list.old result list.new }
 {
-    match checked(p, glyph, list.len()) {
+    match checked(ranges::in_ranges(p), glyph, list.len()) {
         Err(check) => nothing_taken(p, Answer::CallRefused(check), 0),
         Ok(()) => {
             let listed = list_cells(p.body.sets, glyph as u8, list);

@@ -8,18 +8,25 @@ use native.Mathlib.Numerals.{add-one}
 use native.Mathlib.Omega.{arith}
 use borrow.Author.Tests.{eq-eqb, ne_eqb, le-leb, lt-leb, lt-ltb, le-ltb, ltb-false}
 use lib.ListN.{length, drop, set, get_or, drop_of_length-le}
-use lib.Seq.{drop-cons, drop-drop, get_or-drop}
+use lib.Seq.{set_split, drop-cons, drop-drop, get_or-drop}
 use Rattle.std.proofs.Math.Nat.{pow-suc}
 use Rattle.std.proofs.lemmas.List.{drop-set}
 use Rattle.lists.specs.Tests.{when◌then◌else◌, ◌<?◌}
 use Rattle.lists.specs.Runs.{pasted}
-use Rattle.lists.proofs.Laws.{when_true, when_false, pasted_refused}
+use Rattle.lists.proofs.Laws.{when_true, when_false, pasted_fits, pasted_refused}
 use Rattle.wording.specs.Text.{Text, text, ◌then◌, decimal_in, decimal, form_behind}
 
 -- a run that fits stands behind the text
 pub fits : (out : List ℕ) (size : ℕ) (run : List ℕ) → size + length run ≤ length out → text (pasted out size run) (size + length run) ≡ (text out size then run)
 unfolding ◌then◌
 fits out size run h = ap (text (pasted out size run)) (sym (when_true _ _ _ (le-leb (size + length run) (length out) h)))
+
+-- and so does a byte
+pub byte_fits : (out : List ℕ) (size b : ℕ) → size < length out → text (set out size b) (size + 1) ≡ (text out size then (b ∷ []))
+byte_fits out size b h =
+    let written : set out size b ≡ pasted out size (b ∷ []) =
+    rw (set_split out size b h, pasted_fits out size (b ∷ []) (omega arith), add-one size, append_assoc) in
+    ap (λ (o : List ℕ). text o (size + 1)) written ∙ fits out size (b ∷ []) (omega arith)
 
 -- one that does not is left out
 pub left_out : (out : List ℕ) (size : ℕ) (run : List ℕ) → length out < size + length run → text out size ≡ (text out size then run)

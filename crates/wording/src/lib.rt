@@ -1,7 +1,7 @@
 // Text put together in a lent buffer.
 #![tactic(auto)]
 
-ghost use Rattle.std.specs.Prelude.{◌≡◌, ◌≤◌, length, drop};
+ghost use Rattle.std.specs.Prelude.{◌≡◌, ◌≤◌, [], ◌∷◌, length, drop};
 ghost use Rattle.wording.specs.Text.{text, ◌then◌, decimal, FillsForm};
 
 // The run behind the first bytes of the buffer, and how many there are then; a run that does not fit is left out.
@@ -16,6 +16,20 @@ fn word(out: &mut [u8], size: usize, run: &[u8]) -> usize
     }
     lists::paste(out, size, run);
     size + run.len()
+}
+
+// A byte behind the first bytes of the buffer; one that does not fit is left out.
+// Kept: a run of one byte through `word` costs a call of the C library's memcpy for each byte of a form.
+fn byte(out: &mut [u8], size: usize, b: u8) -> usize
+    requires { size ≤ length out.old }
+    ensures inside { result ≤ length out.new }
+    ensures added { text out.new result ≡ (text out.old size then (b ∷ [])) }
+{
+    if out.len() <= size {
+        return size;
+    }
+    out[size] = b;
+    size + 1
 }
 
 // The decimal digits of a number at the end of the room, and where they begin.
@@ -41,6 +55,9 @@ fn number(out: &mut [u8], size: usize, n: u64) -> usize
     ensures inside { result ≤ length out.new }
     ensures added { text out.new result ≡ (text out.old size then decimal n) }
 {
+    if n < 10 {
+        return byte(out, size, b'0' + n as u8);
+    }
     let mut digits = [0u8; 20];
     let k = decimal(n, &mut digits);
     word(out, size, &digits[k..])
@@ -59,7 +76,7 @@ pub fn filled(out: &mut [u8], form: &[u8], numbers: &[u64]) -> usize
             n = number(out, n, numbers.get(k).copied().unwrap_or(0));
             k += 1;
         } else {
-            n = word(out, n, &[b]);
+            n = byte(out, n, b);
         }
     }
     n

@@ -18,5 +18,5 @@ returns-then-out-ne-REPLY c =
 pub returns : goal.returns
 returns c =
     let a = c.args in
-    composes_all a.out.now a.content.now a.kind c.checksum-sum.result c.paste.new.out c.paste-2.new.out _ c.if-out-ne-REPLY.false c.if-size-gt-CONTENT.false c.paste.ensures c.checksum-sum.ensures c.paste-2.ensures
+    composes_all a.out.now a.content.now a.kind c.checksum-sum.result c.lay_content.new.out c.paste.new.out _ c.if-out-ne-REPLY.false c.if-size-gt-CONTENT.false c.lay_content.ensures c.checksum-sum.ensures c.paste.ensures
     (cc (low_bytes c.checksum-sum.result (omega arith)))

@@ -4,11 +4,11 @@ use Rattle.symbols.proofs.cells.Goals as goal
 
 pub returns-in-Err : goal.returns-in-Err
 returns-in-Err c =
-    let failed = sym c.in-Err.ensures.first in
+    let failed = sym (rw c.in_ranges.ensures at c.in-Err.ensures.first) in
     (c.nothing_taken.ensures ∙ sym (decided_fails _ failed _ _), sym (decided_fails _ failed _ _))
 
 pub returns-in-Ok : goal.returns-in-Ok
 returns-in-Ok c =
-    let q = decided_passes _ (sym c.in-Ok.ensures.first) in
+    let q = decided_passes _ (sym (rw c.in_ranges.ensures at c.in-Ok.ensures.first)) in
     let found = c.list_cells-listed.ensures in
     (rw (c.nothing_taken-told.ensures, found.0) (sym (accepted_by _ q _ _)), found.1 ∙ sym (accepted_by _ q _ _))

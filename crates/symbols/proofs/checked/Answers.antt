@@ -4,5 +4,5 @@ use Rattle.symbols.proofs.checked.Goals as goal
 
 pub returns : goal.returns
 returns c =
-    let all = one_more _ _ _ (one_more _ _ _ (first_one _ _ (rw c.in_ranges.ensures at c.also-state.ensures)) c.also-known.ensures) c.also.ensures in
+    let all = one_more _ _ _ (one_more _ _ _ (first_one _ _ c.also-state.ensures) c.also-known.ensures) c.also.ensures in
     record { first = all; fits = on_pass _ all (λ q. (leb-true _ _ q.1.0, eqb-true _ _ q.1.1.0)) }

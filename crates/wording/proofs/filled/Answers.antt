@@ -21,8 +21,8 @@ loop-b-preserved c =
       | else-b-eq37 w ↦
           record {
             counted = omega arith;
-            inside = rw (w.n-is, w.out-is) w.word-n.ensures.inside;
-            rest = rw (w.out-is, w.n-is, w.k-is, w.word-n.ensures.added)
+            inside = rw (w.n-is, w.out-is) w.byte-n.ensures.inside;
+            rest = rw (w.out-is, w.n-is, w.k-is, w.byte-n.ensures.added)
                 (sym (byte_turn t a.form.now a.numbers.now l.b-index l.k (omega arith) w.if-b-eq37.false) ∙ l.invariant.rest);
           }
     ]
